@@ -10,15 +10,17 @@ use Rattle.std.specs.Prelude.{cond, is_some, slice_get, ◌⊎◌, ◌||◌}
 use Rattle.std.specs.List.{All, Contains, filter}
 use Rattle.std.specs.Global.{Vec}
 use Rattle.std.specs.Vec.{vec_items}
+use Rattle.dirty_slots.specs.declared.slots.DirtySlots.{DirtySlots}
+use Rattle.dirty_slots.specs.Blocks.{AreDoubted, clean_at}
 use Rattle.reactive.specs.declared.key.Key.{Key}
 use Rattle.reactive.specs.declared.links.Edge.{Edge}
 use Rattle.reactive.specs.declared.links.Mark.{Mark}
 use Rattle.reactive.specs.declared.links.Marks.{Marks}
 use Rattle.reactive.specs.declared.links.Owner.{Owner}
 use Rattle.reactive.specs.declared.links.Web.{Web}
-use Rattle.reactive.specs.Links.{AreNumbered, edges_at, edges_by, HasForgotten, is_current, is_same, IsLinked}
+use Rattle.reactive.specs.Links.{AreNumbered, edges_at, edges_by, HasForgotten, is_current, is_same, IsSlotLinked}
 use Rattle.reactive.specs.Links.{IsRelinked, Keeps, known_at, Leans, leans_by, leans_itself, owner_at, unknown}
-use Rattle.reactive.specs.Visiting.{AreListed, count_known, Drops, HasRoom, IsDropped, LeadThrough}
+use Rattle.reactive.specs.Visiting.{AreToVisit, count_known, Drops, HaveRoom, IsDropped, LeadThrough}
 
 -- ==== lists
 
@@ -129,7 +131,7 @@ module _ (old : Web) (slot number : ℕ) (reads : List Key) where
   -- the first so many are linked
   pub record Relinking (i : ℕ) (now : Web) : Type 0 where
     pub owners : (s : ℕ) → owner_at (vec_items now.owners) s ≡ owner_at (vec_items old.owners) s
-    pub links : (r s : ℕ) → IsLinked old r s → IsLinked now r s
+    pub links : (r s : ℕ) → IsSlotLinked old r s → IsSlotLinked now r s
     pub linked : All (IsEdge now slot number) (take i reads)
     pub only : (s : ℕ) (e : Edge) → Contains (edges_at now s) e → Contains (edges_at old s) e ⊎ IsNewEdge e s
 
@@ -144,7 +146,7 @@ module _ (old : Web) (slot number : ℕ) (reads : List Key) where
 
   module _ (i : ℕ) (d : Key) (lt : i < length reads) (now new : Web) (h : Relinking i now)
       (a : IsAdded (get_or reads i d).id.slot now new) where
-    links_left : (r s : ℕ) → IsLinked old r s → IsLinked new r s
+    links_left : (r s : ℕ) → IsSlotLinked old r s → IsSlotLinked new r s
     links_left r s link =
         let was = h.links r s link in
         let stayed = a.kept s _ was (inl (current_itself now r)) in
@@ -204,7 +206,7 @@ module _ (old new : Web) (owners : (s : ℕ) → owner_at (vec_items new.owners)
   same_edges : (s : ℕ) → edges_at new s ≡ edges_at old s
   same_edges s = ap (λ rs. edges_by (slice_get (vec_items rs) s)) readers
 
-  same_link : (r s : ℕ) → IsLinked new r s ≡ IsLinked old r s
+  same_link : (r s : ℕ) → IsSlotLinked new r s ≡ IsSlotLinked old r s
   same_link r s = λ i. Contains (same_edges s i) (record { slot = r; number = (owners r i).number })
 
   pub kept_web : new.number ≡ old.number → Keeps old new
@@ -260,7 +262,7 @@ module _ (old now new : Web) (k : Key) (number : ℕ) (reads : List Key) (i : �
         (edge_cases s e c);
   }
 
-  exact : AreNumbered old → (s : ℕ) → IsLinked new k.id.slot s → (a : Key) × Contains reads a × (a.id.slot ≡ s)
+  exact : AreNumbered old → (s : ℕ) → IsSlotLinked new k.id.slot s → (a : Key) × Contains reads a × (a.id.slot ≡ s)
   exact below s link =
       let here : Contains (edges_at new s) (record { slot = k.id.slot; number = number }) =
       subst (λ n. Contains (edges_at new s) (record { slot = k.id.slot; number = n })) (ap (λ o. o.number) owner_here) link in
@@ -269,7 +271,7 @@ module _ (old now new : Web) (k : Key) (number : ℕ) (reads : List Key) (i : �
       (λ is. (is.1, is.2, is.3))
       (edge_cases s _ here)
 
-  only_other : AreNumbered old → (r s : ℕ) → r ≢ k.id.slot → IsLinked new r s → IsLinked old r s
+  only_other : AreNumbered old → (r s : ℕ) → r ≢ k.id.slot → IsSlotLinked new r s → IsSlotLinked old r s
   only_other below r s ne link =
       let was : Contains (edges_at new s) (record { slot = r; number = (owner_at (vec_items old.owners) r).number }) =
       subst (λ n. Contains (edges_at new s) (record { slot = r; number = n })) (ap (λ o. o.number) (owner_other r ne)) link in
@@ -392,7 +394,7 @@ module _ (w : Web) (first : List Mark) (before : List ℕ) (edges : List Edge) w
   }
 
   module _ (i : ℕ) (e : Edge) (lt : i < length edges) (is : e ≡ get_or edges i e) (now new : Marks) (list : List ℕ)
-      (h : Dropping i (vec_items now.known) list) (listed : AreListed now list) where
+      (h : Dropping i (vec_items now.known) list) (listed : AreToVisit now list) where
     gone_more : IsFewer (vec_items now.known) (vec_items new.known) → IsGone w (vec_items new.known) e
         → All (IsGone w (vec_items new.known)) (take (i + 1) edges)
     gone_more fewer gone = All-more (IsGone w (vec_items new.known)) edges i e lt
@@ -423,7 +425,7 @@ module _ (w : Web) (first : List Mark) (before : List ℕ) (edges : List Edge) w
           (λ other. sym (same_other s other) ∙ at)
           (cases_eq s e.slot)
 
-      listed_more : AreListed new (e.slot ∷ list)
+      listed_more : AreToVisit new (e.slot ∷ list)
       listed_more = (
         omega (arith, left, listed.0),
         (
@@ -460,10 +462,10 @@ module _ (w : Web) (first : List Mark) (before : List ℕ) (edges : List Edge) w
             (first_or_rest e.slot list s in_it);
       }
 
-    pub drop_more : IsDropped w e now new → (more : List ℕ) × AreListed new more × Dropping (i + 1) (vec_items new.known) more
+    pub drop_more : IsDropped w e now new → (more : List ℕ) × AreToVisit new more × Dropping (i + 1) (vec_items new.known) more
     drop_more (inl (same, none)) = (
       list,
-      subst (λ m. AreListed m list) (sym same) listed,
+      subst (λ m. AreToVisit m list) (sym same) listed,
       record {
         fewer = subst (λ m. IsFewer first (vec_items m.known)) (sym same) h.fewer;
         gone = gone_more (subst (λ m. IsFewer (vec_items now.known) (vec_items m.known)) (sym same) (λ s v at. at))
@@ -480,8 +482,8 @@ module _ (w : Web) (first : List Mark) (before : List ℕ) (edges : List Edge) w
     )
 
 -- there is room for one that is dropped, which is counted no longer
-pub dropped_room : (w : Web) (e : Edge) (now new : Marks) → IsDropped w e now new → HasRoom now
-    → HasRoom new × (count_known (vec_items new.known) + count_known (vec_items new.known) + new.left
+pub dropped_room : (w : Web) (e : Edge) (now new : Marks) → IsDropped w e now new → HaveRoom now
+    → HaveRoom new × (count_known (vec_items new.known) + count_known (vec_items new.known) + new.left
     ≤ count_known (vec_items now.known) + count_known (vec_items now.known) + now.left)
 dropped_room w e now new (inl (same, none)) room = rw same (room, omega arith)
 dropped_room w e now new (inr (current, (g, had, put, head, left))) room =
@@ -519,7 +521,7 @@ module _ (w : Web) (first : List Mark) (slot : ℕ) where
   pub record Waits (now : List Mark) (list : List ℕ) : Type 0 where
     pub fewer : IsFewer first now
     pub here : known_at now slot ≡ None
-    pub rest : (r s g : ℕ) → known_at now r ≡ Some g → IsLinked w r s
+    pub rest : (r s g : ℕ) → known_at now r ≡ Some g → IsSlotLinked w r s
         → ((s ≢ slot) × (known_at now s ≡ known_at first s)) ⊎ Contains list s
     pub spared : (s : ℕ) → (known_at now s ≡ known_at first s) ⊎ Leans w (known_at first) s slot
     pub listed : (s : ℕ) → Contains list s → Leans w (known_at first) s slot
@@ -542,7 +544,7 @@ module _ (w : Web) (first : List Mark) (slot : ℕ) where
           (λ in_it. inr in_it)
           (d.rest s))
           (λ waits. ⊎_elim
-          (λ this. absurd (d.readers r g is (subst (λ x. IsLinked w r x) (sym this) link)))
+          (λ this. absurd (d.readers r g is (subst (λ x. IsSlotLinked w r x) (sym this) link)))
           (λ before. inr (d.todo s before))
           (first_or_rest next list s waits))
           (h.rest r s g (d.fewer r g is) link);
@@ -562,7 +564,7 @@ begin_waits w first start now list slot here others d = record {
   fewer = λ s g is. fewer_at s g (d.fewer s g is) (cases_eq s slot);
   here = still_none start now d.fewer slot here;
   rest = λ r s g is link. ⊎_elim
-      (λ this. absurd (d.readers r g is (subst (λ x. IsLinked w r x) this link)))
+      (λ this. absurd (d.readers r g is (subst (λ x. IsSlotLinked w r x) this link)))
       (λ other. ⊎_elim
       (λ same. inl (other, same ∙ others s other))
       (λ in_it. inr in_it)
@@ -596,7 +598,7 @@ waits_done w first now list slot empty h = record {
 }
 
 -- one is taken from the list
-pub taken : (m : Marks) (list : List ℕ) → AreListed m list → 0 < m.left
+pub taken : (m : Marks) (list : List ℕ) → AreToVisit m list → 0 < m.left
     → (rest : List ℕ) × (list ≡ m.first ∷ rest) × (m.first < length (vec_items m.known))
     × (m.left ≡ length rest + 1) × LeadThrough (vec_items m.known) (get_or (vec_items m.known) m.first unknown).next rest
 taken m [] (len, lead) some = absurd (omega (arith, len, some))
@@ -612,3 +614,60 @@ pub known_past : (marks : List Mark) (s : ℕ) → length marks ≤ s → known_
 known_past [] s past = refl
 known_past (m ∷ marks) zero past = absurd (omega (arith, past))
 known_past (m ∷ marks) (suc s) past = known_past marks s (omega (arith, past))
+
+-- ==== what stays clean
+
+-- of a clean slot the same is known as before, or it is to be visited
+abbrev pub Trusts : List Bool → List Mark → ℕ → List Mark → List ℕ → Type 0
+Trusts right old slot now list = (s : ℕ) → clean_at right s ≡ true
+    → (s ≢ slot) × ((known_at now s ≡ known_at old s) ⊎ Contains list s)
+
+apart_if : (right : List Bool) (s t : ℕ) → clean_at right t ≡ false → clean_at right s ≡ true → s ≢ t
+apart_if right s t wrong is same = true≢false (sym is ∙ (ap (clean_at right) same ∙ wrong))
+
+pub trust_begin : (w : Web) (right : List Bool) (old mid now : List Mark) (slot : ℕ) (list : List ℕ)
+    → clean_at right slot ≡ false → ((s : ℕ) → s ≢ slot → known_at mid s ≡ known_at old s)
+    → Drops w mid [] slot now list → Trusts right old slot now list
+trust_begin w right old mid now slot list wrong others d s is =
+    let apart = apart_if right s slot wrong is in
+    (apart, ⊎_elim (λ same. inl (same ∙ others s apart)) (λ there. inr there) (d.rest s))
+
+-- in a list it is the first, or one of the others
+first_or : (x : ℕ) (xs : List ℕ) (s : ℕ) → Contains (x ∷ xs) s → (s ≡ x) ⊎ Contains xs s
+first_or x xs s (zero, lt, is) = inl (sym is)
+first_or x xs s (suc k, lt, is) = inr (k, omega (arith, lt), is)
+
+pub trust_more : (w : Web) (before right : List Bool) (old now new : List Mark) (slot next : ℕ) (rest list : List ℕ)
+    → ((s : ℕ) → clean_at right s ≡ true → clean_at before s ≡ true) → clean_at right next ≡ false
+    → Drops w now rest next new list → Trusts before old slot now (next ∷ rest) → Trusts right old slot new list
+trust_more w before right old now new slot next rest list fewer wrong d trusts s is =
+    let t = trusts s (fewer s is) in (
+      t.0,
+      ⊎_elim
+          (λ same. ⊎_elim (λ stays. inl (stays ∙ same)) (λ there. inr there) (d.rest s))
+          (λ there. ⊎_elim
+          (λ first. absurd (apart_if right s next wrong is first))
+          (λ later. inr (d.todo s later))
+          (first_or next rest s there))
+          t.1,
+    )
+
+pub trust_done : (right : List Bool) (old now : List Mark) (slot : ℕ) (list : List ℕ) → length list ≡ 0
+    → Trusts right old slot now list → (s : ℕ) → clean_at right s ≡ true
+    → (s ≢ slot) × (known_at now s ≡ known_at old s)
+trust_done right old now slot [] none trusts s is =
+    let t = trusts s is in (t.0, ⊎_elim (λ same. same) (λ there. absurd (omega (arith, there.1))) t.1)
+trust_done right old now slot (x ∷ list) none trusts s is = absurd (omega (arith, none))
+
+pub doubted_more : (old mid new : DirtySlots) → AreDoubted old mid → AreDoubted mid new → AreDoubted old new
+doubted_more old mid new a b = record {
+  fewer = λ s right. a.fewer s (b.fewer s right);
+  flagged = λ s c was wrong in_block. ⊎_elim
+      (λ right. b.flagged s c right wrong in_block)
+      (λ not. b.kept c (a.flagged s c was not in_block))
+      (is_or_not (clean_at (vec_items mid.clean) s));
+  kept = λ c flag. b.kept c (a.kept c flag);
+} where
+  is_or_not : (b : Bool) → (b ≡ true) ⊎ (b ≡ false)
+  is_or_not true = inl refl
+  is_or_not false = inr refl

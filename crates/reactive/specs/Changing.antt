@@ -5,7 +5,7 @@ use Rattle.std.specs.Prelude.{◌≡◌, ◌≤◌, ℕ, [], Option, Some}
 use Rattle.std.specs.Vec.{vec_items}
 use Rattle.reactive.specs.declared.key.Key.{Key}
 use Rattle.reactive.specs.declared.node.Node.{Node}
-use Rattle.reactive.specs.Tables.{IsPut, Table}
+use Rattle.reactive.specs.Tables.{IsPut, NodeTable}
 
 -- a node has a rule or a value, and is else as new
 pub record IsResetTo {T R : Type 0} (its : Option R) (shown : Option T) (now : ℕ) (n : Node T R) : Type 0 where
@@ -18,7 +18,7 @@ pub record IsResetTo {T R : Type 0} (its : Option R) (shown : Option T) (now : �
 -- from one table to another a key's node was changed by a closure, which returned this
 pub record IsChanged {F U T R : Type 0}
     (g : Once F (MutBor (Node T R) × Unit {0}) (U × (MutBor (Node T R) × Unit {0})))
-    (f : F) (old : Table T R) (k : Key) (u : U) (new : Table T R) : Type 0 where
+    (f : F) (old : NodeTable T R) (k : Key) (u : U) (new : NodeTable T R) : Type 0 where
   pub was : Node T R
   pub is : Node T R
   pub had : old k ≡ Some was

@@ -35,8 +35,8 @@ abbrev pub is_same : Edge → Edge → Bool
 is_same e f = nat_eq e.slot f.slot && nat_eq e.number f.number
 
 -- a slot is linked to another, which its node reads
-abbrev pub IsLinked : Web → ℕ → ℕ → Type 0
-IsLinked w r s = Contains (edges_at w s) (record { slot = r; number = (owner_at (vec_items w.owners) r).number })
+abbrev pub IsSlotLinked : Web → ℕ → ℕ → Type 0
+IsSlotLinked w r s = Contains (edges_at w s) (record { slot = r; number = (owner_at (vec_items w.owners) r).number })
 
 -- the links of its slot are a node's
 abbrev pub Owns : Web → Key → Type 0
@@ -50,19 +50,19 @@ pub record AreNumbered (w : Web) : Type 0 where
 -- from one web to another no link was lost or made
 pub record Keeps (old new : Web) : Type 0 where
   pub owners : (s : ℕ) → owner_at (vec_items new.owners) s ≡ owner_at (vec_items old.owners) s
-  pub links : (r s : ℕ) → IsLinked old r s → IsLinked new r s
-  pub only : AreNumbered old → (r s : ℕ) → IsLinked new r s → IsLinked old r s
+  pub links : (r s : ℕ) → IsSlotLinked old r s → IsSlotLinked new r s
+  pub only : AreNumbered old → (r s : ℕ) → IsSlotLinked new r s → IsSlotLinked old r s
   pub numbered : AreNumbered old → AreNumbered new
 
 -- from one web to another a node was linked to those that it reads and no others, and no link of another
 -- slot was lost or made
 pub record IsRelinked (old : Web) (k : Key) (reads : List Key) (new : Web) : Type 0 where
   pub owned : Owns new k
-  pub linked : (a : Key) → Contains reads a → IsLinked new k.id.slot a.id.slot
-  pub exact : AreNumbered old → (s : ℕ) → IsLinked new k.id.slot s → (a : Key) × Contains reads a × (a.id.slot ≡ s)
+  pub linked : (a : Key) → Contains reads a → IsSlotLinked new k.id.slot a.id.slot
+  pub exact : AreNumbered old → (s : ℕ) → IsSlotLinked new k.id.slot s → (a : Key) × Contains reads a × (a.id.slot ≡ s)
   pub owners : (s : ℕ) → s ≢ k.id.slot → owner_at (vec_items new.owners) s ≡ owner_at (vec_items old.owners) s
-  pub links : (r s : ℕ) → r ≢ k.id.slot → IsLinked old r s → IsLinked new r s
-  pub only : AreNumbered old → (r s : ℕ) → r ≢ k.id.slot → IsLinked new r s → IsLinked old r s
+  pub links : (r s : ℕ) → r ≢ k.id.slot → IsSlotLinked old r s → IsSlotLinked new r s
+  pub only : AreNumbered old → (r s : ℕ) → r ≢ k.id.slot → IsSlotLinked new r s → IsSlotLinked old r s
   pub numbered : AreNumbered old → AreNumbered new
 
 -- ---- marks
@@ -86,12 +86,12 @@ knows known k = holds (known k.id.slot) k.id.generation
 -- a slot comes to another by links of slots of which something is known
 pub data Leans (w : Web) (known : ℕ → Option ℕ) : ℕ → ℕ → Type 0 where
   leans_itself : (s : ℕ) → Leans w known s s
-  leans_by : (r s t g : ℕ) → known r ≡ Some g → IsLinked w r s → Leans w known s t → Leans w known r t
+  leans_by : (r s t g : ℕ) → known r ≡ Some g → IsSlotLinked w r s → Leans w known s t → Leans w known r t
 
 -- From one state to another a slot was forgotten: each memo that is still known reads only what is
 -- unchanged.
 pub record HasForgotten (w : Web) (old : List Mark) (slot : ℕ) (new : List Mark) : Type 0 where
   pub fewer : (s g : ℕ) → known_at new s ≡ Some g → known_at old s ≡ Some g
   pub here : known_at new slot ≡ None
-  pub others : (r s g : ℕ) → known_at new r ≡ Some g → IsLinked w r s
+  pub others : (r s g : ℕ) → known_at new r ≡ Some g → IsSlotLinked w r s
       → (s ≢ slot) × (known_at new s ≡ known_at old s)

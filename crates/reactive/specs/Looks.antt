@@ -32,7 +32,7 @@ module _ {T R : Type 0} (b : Book T R) where
 
 module _ {T R : Type 0} (G : Graph T) (now : ℕ) (b : Book T R) (k : Key) where
   -- a memo's plan leads to a value by results that are known to be right
-  pub record LeadsTo (n : Node T R) (v : T) (reads : List Key) : Type 0 where
+  pub record PlanLeadsTo (n : Node T R) (v : T) (reads : List Key) : Type 0 where
     pub rule : R
     pub has : n.rule ≡ Some rule
     pub answers : List (Asked T)
@@ -43,20 +43,20 @@ module _ {T R : Type 0} (G : Graph T) (now : ℕ) (b : Book T R) (k : Key) where
   abbrev pub Looked : Look → Type 0
   Looked look.Known = (v : T) × Shows b k v
   Looked look.Right = (n : Node T R) × (b.nodes k ≡ Some n) × ((v : T) × (n.value ≡ Some v)
-      × LeadsTo n v (vec_items n.reads))
+      × PlanLeadsTo n v (vec_items n.reads))
   Looked look.Stale = (n : Node T R) × (b.nodes k ≡ Some n) × ((rule : R) × (n.rule ≡ Some rule))
   Looked (look.Needs j place) = Needs G k j × GoesOn G now b k (Some place)
   Looked (look.Gone j) = IsMute G k × Reaches G k j × (b.nodes j ≡ None)
   Looked look.NoValue = GivesNone G k
 
   -- what a run of its rule finds
-  abbrev pub Finds : Found T → Type 0
-  Finds (found.Again v) = (n : Node T R) × (b.nodes k ≡ Some n) × (n.value ≢ None) × LeadsTo n v (vec_items n.reads)
-  Finds (found.New v reads) = (n : Node T R) × (b.nodes k ≡ Some n) × LeadsTo n v (vec_items reads)
-  Finds (found.Needs j) = Needs G k j
-  Finds (found.Gone j) = IsMute G k × Reaches G k j × (b.nodes j ≡ None)
-  Finds found.NoValue = GivesNone G k
-  Finds found.Full = Unit {0}
+  abbrev pub RunFinds : Found T → Type 0
+  RunFinds (found.Again v) = (n : Node T R) × (b.nodes k ≡ Some n) × (n.value ≢ None) × PlanLeadsTo n v (vec_items n.reads)
+  RunFinds (found.New v reads) = (n : Node T R) × (b.nodes k ≡ Some n) × PlanLeadsTo n v (vec_items reads)
+  RunFinds (found.Needs j) = Needs G k j
+  RunFinds (found.Gone j) = IsMute G k × Reaches G k j × (b.nodes j ≡ None)
+  RunFinds found.NoValue = GivesNone G k
+  RunFinds found.Full = Unit {0}
 
   -- what a step at a node comes to
   abbrev pub Stepped : Step → Type 0

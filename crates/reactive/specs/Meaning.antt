@@ -9,15 +9,15 @@ abbrev pub Graph : Type 0 → Type 0
 Graph T = Key → Plan T
 
 -- A plan yields a value in a graph: at once, or by what the node that it reads yields there.
-pub data Gives {T : Type 0} (G : Graph T) : Plan T → T → Type 0 where
-  gives : (v : T) → Gives G (Give v) v
+pub data Yields {T : Type 0} (G : Graph T) : Plan T → T → Type 0 where
+  gives : (v : T) → Yields G (Give v) v
   goes_on : (k : Key) (next : T → Plan T) (a v : T)
-      → Gives G (G k) a → Gives G (next a) v → Gives G (Ask k next) v
+      → Yields G (G k) a → Yields G (next a) v → Yields G (Ask k next) v
 
 module _ {T : Type 0} (G : Graph T) where
   -- a node means what its plan yields
   abbrev pub Means : Key → T → Type 0
-  Means k v = Gives G (G k) v
+  Means k v = Yields G (G k) v
 
   -- a node means nothing
   abbrev pub IsMute : Key → Type 0
@@ -32,10 +32,6 @@ module _ {T : Type 0} (G : Graph T) where
   abbrev pub Needs : Key → Key → Type 0
   Needs j k = (answers : List (Asked T)) × (next : T → Plan T)
       × AllMean answers × Follows (G j) answers (Ask k next)
-
-  -- what the nodes of a set need is in the set
-  abbrev pub IsClosed : (Key → Type 0) → Type 0
-  IsClosed D = (j k : Key) → D j → Needs j k → D k
 
 -- a node comes to another by what it needs, in any number of steps
 pub data Reaches {T : Type 0} (G : Graph T) : Key → Key → Type 0 where
@@ -57,7 +53,7 @@ value_from Stop goes = None
 value_from (Ask k next) goes = None
 
 -- what a plan comes to by the values of sources, if it asks for nothing else
-abbrev pub value_by : {T : Type 0} → Graph T → Plan T → Option T
-value_by G (Give v) = Some v
-value_by G Stop = None
-value_by G (Ask k next) = value_from (G k) (λ a. value_by G (next a))
+abbrev pub plan_value : {T : Type 0} → Graph T → Plan T → Option T
+plan_value G (Give v) = Some v
+plan_value G Stop = None
+plan_value G (Ask k next) = value_from (G k) (λ a. plan_value G (next a))

@@ -13,12 +13,12 @@ use Rattle.reactive.specs.declared.look.Step.{Step}
 use Rattle.reactive.specs.Chains.{AllGoOn, Chain, GoesOn}
 use Rattle.reactive.specs.Looks.{Stepped}
 use Rattle.reactive.specs.Plans.{Plan}
-use Rattle.reactive.specs.Settling.{Leaves}
+use Rattle.reactive.specs.Settling.{LeavesBook}
 use Rattle.reactive.specs.Tables.{Book, IsSound, Shows}
 
 -- memory ran out, or numbers did
-abbrev pub IsShort : StoreError → Type 0
-IsShort e = (e ≡ OutOfMemory) ⊎ (e ≡ NumbersExhausted)
+abbrev pub HasRunOut : StoreError → Type 0
+HasRunOut e = (e ≡ OutOfMemory) ⊎ (e ≡ NumbersExhausted)
 
 module _ {T : Type 0} (G : Graph T) (kind : Key → Kind) (k : Key) where
   -- That a node was removed, needs itself, or yields no value is true of it, and says that the node that
@@ -28,7 +28,7 @@ module _ {T : Type 0} (G : Graph T) (kind : Key → Kind) (k : Key) where
   Blames (fault.Cycle j) = IsMute G k × Reaches G k j × NeedsItself G j
   Blames (fault.NoValue j) = IsMute G k × Reaches G k j × GivesNone G j
   Blames (fault.NoSource j) = ⊥
-  Blames (fault.Store e) = IsShort e
+  Blames (fault.Store e) = HasRunOut e
 
   -- a value is what the node means
   abbrev pub Answers : Result T Fault → Type 0
@@ -45,7 +45,7 @@ module _ {T R : Type 0} (plan : R → Plan T) (G : Graph T) (now : ℕ) where
   -- from one book to another a look at a node was taken, and kept
   pub record IsAdvanced (old : Book T R) (k : Key) (step : Step) (new : Book T R) : Type 0 where
     pub sound : IsSound plan G now new
-    pub leaves : Leaves G now old new
+    pub leaves : LeavesBook G now old new
     pub stepped : Stepped G now new k step
 
   -- on the way from one node, by these, to another: each needs the next, and looks at them go on
@@ -55,8 +55,8 @@ module _ {T R : Type 0} (plan : R → Plan T) (G : Graph T) (now : ℕ) where
     pub others : AllGoOn G now b path
     pub last : GoesOn G now b top.key top.place
 
-  -- the path goes on, or has come to its end
+  -- the path goes on, or has come to its end, or to a fault
   abbrev pub Went : Book T R → Key → List Frame → Result (Option Frame) Fault → Type 0
   Went b start path (Ok (Some top)) = IsOnTheWay b start path top
   Went b start path (Ok None) = IsSound plan G now b × ((v : T) × Shows b start v)
-  Went b start path (Err f) = IsSound plan G now b × Blames G (kinds_of b.nodes) start f
+  Went b start path (Err f) = IsSound plan G now b

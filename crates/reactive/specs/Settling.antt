@@ -6,12 +6,12 @@ use Rattle.reactive.specs.declared.node.Node.{Node}
 use Rattle.reactive.specs.Meaning.{Graph, Means}
 use Rattle.reactive.specs.Plans.{Asked}
 use Rattle.reactive.specs.Links.{Keeps}
-use Rattle.reactive.specs.Tables.{Book, Shows, Stands}
+use Rattle.reactive.specs.Tables.{Book, Shows, IsStillValid}
 
 module _ {T R : Type 0} where
   -- a node has a cached value and the reads that its rule computed it from, checked now: either the
   -- value that it had, or one that has changed now
-  pub record IsSettled (old : Node T R) (v : T) (asked : Vec Key) (now : ℕ) (new : Node T R) : Type 0 where
+  pub record IsNodeSettled (old : Node T R) (v : T) (asked : Vec Key) (now : ℕ) (new : Node T R) : Type 0 where
     pub rule : new.rule ≡ old.rule
     pub value : new.value ≡ Some v
     pub asked_by : new.reads ≡ asked
@@ -20,10 +20,10 @@ module _ {T R : Type 0} where
 
 -- What a step changes in a book: what was known is known, results that were valid are, and each node is
 -- unchanged, or known.
-pub record Leaves {T R : Type 0} (G : Graph T) (now : ℕ) (old new : Book T R) : Type 0 where
+pub record LeavesBook {T R : Type 0} (G : Graph T) (now : ℕ) (old new : Book T R) : Type 0 where
   pub known : (k : Key) (v : T) → Shows old k v → Shows new k v
   pub stand : (since : ℕ) (a : Asked T) → since ≤ now → (since ≡ now → Means G a.key a.value)
-      → Stands old.nodes since a → Stands new.nodes since a
+      → IsStillValid old.nodes since a → IsStillValid new.nodes since a
   pub same : (k : Key) → (new.nodes k ≡ old.nodes k) ⊎ ((v : T) × Shows new k v)
 
 -- from one book to another it was learned what a memo means, of whose slot nothing was known

@@ -11,21 +11,21 @@ use Rattle.reactive.specs.declared.key.Key.{Key}
 use Rattle.reactive.specs.declared.links.Links.{Links}
 use Rattle.reactive.specs.declared.links.Mark.{Mark}
 use Rattle.reactive.specs.declared.links.Web.{Web}
-use Rattle.reactive.specs.Links.{AreNumbered, IsLinked, known_at, knows, owner_at, Owns}
+use Rattle.reactive.specs.Links.{AreNumbered, IsSlotLinked, known_at, knows, owner_at, Owns}
 use Rattle.reactive.specs.declared.node.Node.{Node}
 use Rattle.reactive.specs.Plans.{Plan, Give, Stop, Asked, Follows}
 use Rattle.reactive.specs.Meaning.{Graph, AllMean}
 
 -- which node each key has, if any
-abbrev pub Table : Type 0 → Type 0 → Type 0
-Table T R = Key → Option (Node T R)
+abbrev pub NodeTable : Type 0 → Type 0 → Type 0
+NodeTable T R = Key → Option (Node T R)
 
 -- the box of a key; what it refers to doesn't depend on where it was made
-abbrev pub nowhere : Location
-nowhere = record { file = record { ref_ptr = (0, 0); now = [] }; line = 0; column = 0 }
+abbrev pub no_location : Location
+no_location = record { file = record { ref_ptr = (0, 0); now = [] }; line = 0; column = 0 }
 
-abbrev pub pointer_in : Key → GenerationalPointer
-pointer_in k = record { id = k.id; created_at = nowhere }
+abbrev pub key_pointer : Key → GenerationalPointer
+key_pointer k = record { id = k.id; created_at = no_location }
 
 -- these reads, with their nodes' values
 abbrev pub answered : {T : Type 0} → Key → Option T → List (Asked T) → List (Asked T)
@@ -38,13 +38,13 @@ asked_of shown (k ∷ rest) = answered k (shown k) (asked_of shown rest)
 
 -- which node each key has, of which memos it is known what they mean, and which nodes read which
 pub record Book (T R : Type 0) : Type 0 where
-  pub nodes : Table T R
+  pub nodes : NodeTable T R
   pub known : ℕ → Option ℕ
   pub web : Web
 
 module _ {T R : Type 0} where
-  abbrev pub nodes_in : State (Node T R) → Table T R
-  nodes_in S k = value_in S (pointer_in k)
+  abbrev pub nodes_in : State (Node T R) → NodeTable T R
+  nodes_in S k = value_in S (key_pointer k)
 
   abbrev pub book_by : State (Node T R) → List Mark → Web → Book T R
   book_by S known web = record { nodes = nodes_in S; known = known_at known; web = web }
@@ -54,19 +54,19 @@ module _ {T R : Type 0} where
   book S links = book_by S (vec_items links.marks.known) links.web
 
   -- from one table to another a key has another node, and no other key has
-  pub record IsPut (old : Table T R) (k : Key) (n : Node T R) (new : Table T R) : Type 0 where
+  pub record IsPut (old : NodeTable T R) (k : Key) (n : Node T R) (new : NodeTable T R) : Type 0 where
     pub here : new k ≡ Some n
     pub others : (j : Key) → j ≢ k → new j ≡ old j
 
   -- ---- what is known
 
   -- a node has a value, and is a source or surely means it
-  abbrev pub IsKnown : Bool → Node T R → T → Type 0
-  IsKnown sure n v = (n.value ≡ Some v) × ((n.rule ≡ None) ⊎ (sure ≡ true))
+  abbrev pub IsNodeKnown : Bool → Node T R → T → Type 0
+  IsNodeKnown sure n v = (n.value ≡ Some v) × ((n.rule ≡ None) ⊎ (sure ≡ true))
 
   -- a key's node is so
   abbrev pub Shows : Book T R → Key → T → Type 0
-  Shows b k v = (n : Node T R) × (b.nodes k ≡ Some n) × IsKnown (knows b.known k) n v
+  Shows b k v = (n : Node T R) × (b.nodes k ≡ Some n) × IsNodeKnown (knows b.known k) n v
 
   -- each read returned what its node is known to mean
   abbrev pub AreKnown : Book T R → List (Asked T) → Type 0
@@ -79,8 +79,8 @@ module _ {T R : Type 0} where
   known_by sure (Some n) = if is_none n.rule || sure then n.value else None
 
   -- that of a key's node
-  abbrev pub shown_by : Table T R → List Mark → Key → Option T
-  shown_by nodes known k = known_by (knows (known_at known) k) (nodes k)
+  abbrev pub shown_from : NodeTable T R → List Mark → Key → Option T
+  shown_from nodes known k = known_by (knows (known_at known) k) (nodes k)
 
   abbrev pub known_of : Book T R → Key → Option T
   known_of b k = known_by (knows b.known k) (b.nodes k)
@@ -88,17 +88,17 @@ module _ {T R : Type 0} where
   -- ---- what is kept
 
   -- a result is valid: its node still has that value, if that hasn't changed since a revision
-  abbrev pub Stands : Table T R → ℕ → Asked T → Type 0
-  Stands nodes since a =
+  abbrev pub IsStillValid : NodeTable T R → ℕ → Asked T → Type 0
+  IsStillValid nodes since a =
       (n : Node T R) → nodes a.key ≡ Some n → n.changed ≤ since → n.value ≡ Some a.value
 
-  abbrev pub AllStand : Table T R → ℕ → List (Asked T) → Type 0
+  abbrev pub AllStand : NodeTable T R → ℕ → List (Asked T) → Type 0
   AllStand nodes since [] = Unit {0}
-  AllStand nodes since (a ∷ rest) = Stands nodes since a × AllStand nodes since rest
+  AllStand nodes since (a ∷ rest) = IsStillValid nodes since a × AllStand nodes since rest
 
   -- What is cached of a node is a walk of its plan: the results of its reads lead to its value. They are
   -- valid since the node was checked, and are what those nodes mean if that was in this revision.
-  pub record IsWalk (G : Graph T) (now : ℕ) (nodes : Table T R) (k : Key) (n : Node T R) (v : T) : Type 0 where
+  pub record IsWalk (G : Graph T) (now : ℕ) (nodes : NodeTable T R) (k : Key) (n : Node T R) (v : T) : Type 0 where
     pub answers : List (Asked T)
     pub asked : list_map (λ a. a.key) answers ≡ vec_items n.reads
     pub leads : Follows (G k) answers (Give v)
@@ -107,7 +107,7 @@ module _ {T R : Type 0} where
 
   -- What is known of a memo: the results of its reads, which are what those nodes mean and are known to,
   -- lead to its value.
-  pub record IsHeld (G : Graph T) (b : Book T R) (k : Key) (n : Node T R) (v : T) : Type 0 where
+  pub record IsMemoKnown (G : Graph T) (b : Book T R) (k : Key) (n : Node T R) (v : T) : Type 0 where
     pub answers : List (Asked T)
     pub asked : list_map (λ a. a.key) answers ≡ vec_items n.reads
     pub leads : Follows (G k) answers (Give v)
@@ -118,9 +118,9 @@ module _ {T R : Type 0} where
   -- nothing else. The links of known memos are their own.
   pub record AreLinked (b : Book T R) : Type 0 where
     pub linked : (k : Key) (n : Node T R) → b.nodes k ≡ Some n → Owns b.web k
-        → (a : Key) → Contains (vec_items n.reads) a → IsLinked b.web k.id.slot a.id.slot
+        → (a : Key) → Contains (vec_items n.reads) a → IsSlotLinked b.web k.id.slot a.id.slot
     pub exact : (k : Key) (n : Node T R) → b.nodes k ≡ Some n → n.rule ≢ None → n.value ≢ None → Owns b.web k
-        → (s : ℕ) → IsLinked b.web k.id.slot s → (a : Key) × Contains (vec_items n.reads) a × (a.id.slot ≡ s)
+        → (s : ℕ) → IsSlotLinked b.web k.id.slot s → (a : Key) × Contains (vec_items n.reads) a × (a.id.slot ≡ s)
     pub owned : (s g : ℕ) → b.known s ≡ Some g → (owner_at (vec_items b.web.owners) s).generation ≡ Some g
     -- what is known of a slot is known of its node, which is a memo with a cached value
     pub whole : (k : Key) (n : Node T R) (g : ℕ) → b.nodes k ≡ Some n → b.known k.id.slot ≡ Some g
@@ -138,7 +138,7 @@ module _ {T R : Type 0} (plan : R → Plan T) where
   plan_at None = Stop
   plan_at (Some n) = plan_by n.rule n.value
 
-  abbrev pub graph_of : Table T R → Graph T
+  abbrev pub graph_of : NodeTable T R → Graph T
   graph_of nodes k = plan_at (nodes k)
 
   -- A book is sound for a graph: it has this graph's plans, each node has a cached walk of its plan,
@@ -148,7 +148,7 @@ module _ {T R : Type 0} (plan : R → Plan T) where
     pub walks : (k : Key) (n : Node T R) → b.nodes k ≡ Some n
         → (v : T) → n.value ≡ Some v → IsWalk G now b.nodes k n v
     pub held : (k : Key) (n : Node T R) → b.nodes k ≡ Some n → knows b.known k ≡ true
-        → (v : T) → n.value ≡ Some v → IsHeld G b k n v
+        → (v : T) → n.value ≡ Some v → IsMemoKnown G b k n v
     pub checked : (k : Key) (n : Node T R) → b.nodes k ≡ Some n → n.checked ≤ now
     pub changed : (k : Key) (n : Node T R) → b.nodes k ≡ Some n → n.changed ≤ now
     pub links : AreLinked b

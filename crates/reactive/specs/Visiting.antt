@@ -6,15 +6,15 @@ use Rattle.reactive.specs.declared.links.Edge.{Edge}
 use Rattle.reactive.specs.declared.links.Mark.{Mark}
 use Rattle.reactive.specs.declared.links.Marks.{Marks}
 use Rattle.reactive.specs.declared.links.Web.{Web}
-use Rattle.reactive.specs.Links.{IsLinked, is_current, known_at, unknown}
+use Rattle.reactive.specs.Links.{IsSlotLinked, is_current, known_at, unknown}
 
 -- of how many slots something is known
 abbrev pub count_known : List Mark → ℕ
 count_known marks = count_by (λ m. is_some m.generation) marks
 
 -- those of which something is known and those that are to be visited are no more than there are slots
-abbrev pub HasRoom : Marks → Type 0
-HasRoom m = count_known (vec_items m.known) + m.left ≤ length (vec_items m.known)
+abbrev pub HaveRoom : Marks → Type 0
+HaveRoom m = count_known (vec_items m.known) + m.left ≤ length (vec_items m.known)
 
 -- from a slot on, the marks list these, of which nothing is known
 abbrev pub LeadThrough : List Mark → ℕ → List ℕ → Type 0
@@ -23,8 +23,8 @@ LeadThrough marks first (s ∷ rest) = (first ≡ s) × (s < length marks) × (k
     × LeadThrough marks (get_or marks s unknown).next rest
 
 -- these are to be visited
-abbrev pub AreListed : Marks → List ℕ → Type 0
-AreListed m list = (m.left ≡ length list) × LeadThrough (vec_items m.known) m.first list
+abbrev pub AreToVisit : Marks → List ℕ → Type 0
+AreToVisit m list = (m.left ≡ length list) × LeadThrough (vec_items m.known) m.first list
 
 -- From one state to another an edge was followed: it is old, or nothing was known of its slot, or that was
 -- forgotten.
@@ -37,8 +37,8 @@ IsDropped w e old new = ((new ≡ old) × (is_current (vec_items w.owners) e ≡
 -- From one state to another the readers of a slot were forgotten, and are to be visited with those before.
 pub record Drops (w : Web) (old : List Mark) (before : List ℕ) (slot : ℕ) (new : List Mark) (list : List ℕ) : Type 0 where
   pub fewer : (s g : ℕ) → known_at new s ≡ Some g → known_at old s ≡ Some g
-  pub readers : (r g : ℕ) → known_at new r ≡ Some g → IsLinked w r slot → ⊥
+  pub readers : (r g : ℕ) → known_at new r ≡ Some g → IsSlotLinked w r slot → ⊥
   pub rest : (s : ℕ) → (known_at new s ≡ known_at old s) ⊎ Contains list s
   pub todo : (s : ℕ) → Contains before s → Contains list s
   pub only : (s : ℕ) → Contains list s → Contains before s
-      ⊎ ((g : ℕ) × (known_at old s ≡ Some g) × IsLinked w s slot)
+      ⊎ ((g : ℕ) × (known_at old s ≡ Some g) × IsSlotLinked w s slot)

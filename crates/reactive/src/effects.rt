@@ -1,35 +1,41 @@
 //! Effects: nodes that are watched, and whose changes are reported.
 
-ghost use Rattle.std.specs.Prelude.{◌≡◌, ℕ, List, [], ◌∷◌, ◌++◌, length, IsTrue, IfErr, OnOk, OnErr, Result, Ok, Err, None, Some, filter, not};
+ghost use Rattle.std.specs.Prelude.{◌≡◌, ◌≢◌, ◌<◌, ℕ, List, [], ◌∷◌, ◌++◌, true, length, IsTrue, IfErr, IfOk, IfSome, IfNone, OnOk, OnErr, Ok, Err, None, Some};
 ghost use Rattle.reactive.specs.declared.effects.Told.{Told};
-ghost use Rattle.reactive.specs.declared.fault.Fault.{Fault};
-ghost use Rattle.reactive.specs.declared.key.Key.{Key};
-ghost use Rattle.reactive.specs.Hearing.{AllHear, Hears, Says, WasTold, is_old};
-ghost use Rattle.reactive.specs.Graphs.{kind_in, plans_in, shown_in};
-ghost use Rattle.reactive.specs.Refreshing.{IsShort};
+ghost use Rattle.reactive.specs.declared.fault.Fault.TheVariants as fault;
+ghost use Rattle.reactive.specs.Hearing.{Hears, IsNoShortage, WasTold, is_old, effect_named, telling};
+ghost use Rattle.dirty_slots.specs.Blocks.{AreSameSlots, HasFlagged, clean_at};
+ghost use Rattle.reactive.specs.Watching.{effect_at};
+ghost use Rattle.reactive.specs.Refreshing.{HasRunOut};
 
 use crate::fault::Fault;
 use crate::key::Key;
-use crate::node::Node;
-use crate::reactive::Reactive;
-use crate::rule::Rule;
-use crate::values::Value;
-use generational_core::{Storage, StoreError};
+use dirty_slots::DirtySlots;
+use generational_core::StoreError;
+use reactive_values::Value;
 use std::alloc::{AllocError, Global};
-use std::marker::Model;
 
-/// A node that is watched, and what was last reported of it: its value, or why it means nothing.
+/// A node that is watched, its number, and what was last reported of it: its value, or why it means nothing.
 #[derive(Drop)]
 pub struct Effect<T> {
     pub(crate) key: Key,
+    pub(crate) tag: u64,
     pub(crate) told: Option<Result<T, Fault>>,
 }
 
-/// A report of a flush: a node that is watched, and what it means now, or why it means nothing.
+/// A report of a flush: a node that is watched, its number, and what it means now, or why it means nothing.
 #[derive(Drop)]
 pub struct Told<T> {
     pub key: Key,
+    pub tag: u64,
     pub answer: Result<T, Fault>,
+}
+
+/// The effects, by the slots of their nodes. A slot is clean if what was last reported is right.
+#[derive(Drop)]
+pub(crate) struct Effects<T> {
+    pub(crate) rows: Vec<Option<Effect<T>>>,
+    pub(crate) dirty: DirtySlots,
 }
 
 impl<T: Value + Drop> Effect<T> {
@@ -51,15 +57,19 @@ impl<T: Value + Drop> Effect<T> {
         answer: Result<T, Fault>,
         told: &mut Vec<Told<T>>,
     ) -> Result<(), StoreError>
-        ensures noted { OnOk result (self.new ≡ record { key = self.old.key; told = Some noted }) }
-        ensures told { OnOk result (told.new.items
-            ≡ told.old.items ++ record { key = self.old.key; answer = answer } ∷ []) }
-        ensures cause { IfErr result IsShort }
+        ensures noted { OnOk result (self.new ≡ record {
+          key = self.old.key;
+          tag = self.old.tag;
+          told = Some noted;
+        }) }
+        ensures told { OnOk result (told.new.items ≡ told.old.items ++ telling self.old answer ∷ []) }
+        ensures cause { IfErr result HasRunOut }
         ensures kept { OnErr result (self.new ≡ self.old) }
         ensures untold { OnErr result (told.new.items ≡ told.old.items) }
     {
         let key = self.key;
-        match told.push(Told { key, answer }) {
+        let tag = self.tag;
+        match told.push(Told { key, tag, answer }) {
             Ok(()) => {}
             Err(_) => return Err(StoreError::OutOfMemory),
         }
@@ -71,7 +81,9 @@ impl<T: Value + Drop> Effect<T> {
     fn hear_value(&mut self, value: &T, told: &mut Vec<Told<T>>) -> Result<(), StoreError>
         ensures heard { OnOk result ((news : List (Told T)) × (told.new.items ≡ told.old.items ++ news)
             × Hears T.is_same self.old (Ok value.now) self.new news) }
-        ensures cause { IfErr result IsShort }
+        ensures noted { OnOk result (self.new.told ≡ Some (Ok value.now)) }
+        ensures key { self.new.key ≡ self.old.key }
+        ensures cause { IfErr result HasRunOut }
         ensures kept { OnErr result (self.new ≡ self.old) }
         ensures untold { OnErr result (told.new.items ≡ told.old.items) }
     {
@@ -91,7 +103,8 @@ impl<T: Value + Drop> Effect<T> {
     fn hear_fault(&mut self, fault: Fault, told: &mut Vec<Told<T>>) -> Result<(), StoreError>
         ensures heard { OnOk result ((news : List (Told T)) × (told.new.items ≡ told.old.items ++ news)
             × Hears T.is_same self.old (Err fault) self.new news) }
-        ensures cause { IfErr result IsShort }
+        ensures key { self.new.key ≡ self.old.key }
+        ensures cause { IfErr result HasRunOut }
         ensures kept { OnErr result (self.new ≡ self.old) }
         ensures untold { OnErr result (told.new.items ≡ told.old.items) }
     {
@@ -101,128 +114,163 @@ impl<T: Value + Drop> Effect<T> {
         let answer = Err(fault);
         self.tell(Err(fault), answer, told)
     }
+}
 
-    // Brings the node up to date, and reports what it means, unless that was last reported.
-    fn hear<R: Rule<T>, S: Storage<Node<T, R>>>(
-        &mut self,
-        graph: &mut Reactive<T, R, S>,
-        told: &mut Vec<Told<T>>,
-    ) -> Result<(), StoreError>
-        ensures heard { OnOk result ((a : Result T Fault) × Says (plans_in R.plan graph.old) self.old.key a
-            × ((news : List (Told T)) × (told.new.items ≡ told.old.items ++ news)
-            × Hears T.is_same self.old a self.new news)) }
-        ensures plans { plans_in R.plan graph.new ≡ plans_in R.plan graph.old }
-        ensures kinds { kind_in graph.new ≡ kind_in graph.old }
-        ensures lasts { (k : Key) (v : T) → shown_in graph.old k ≡ Some v → shown_in graph.new k ≡ Some v }
-        ensures cause { IfErr result IsShort }
-        ensures kept { OnErr result (self.new ≡ self.old) }
-        ensures untold { OnErr result (told.new.items ≡ told.old.items) }
-    {
-        match graph.refresh(self.key) {
-            Ok(()) => match graph.peek(self.key) {
-                Some(value) => self.hear_value(value, told),
-                None => unreachable!(),
-            },
-            Err(Fault::Store(cause)) => Err(cause),
-            Err(fault) => self.hear_fault(fault, told),
-        }
+// Removes an effect.
+pub(crate) fn remove<T: Drop>(row: &mut Option<Effect<T>>)
+    ensures { row.new ≡ None }
+{
+    *row = None;
+}
+
+// The lack of memory or of numbers that a fault reports.
+pub(crate) fn shortage(told: Fault) -> Option<StoreError>
+    ensures some { IfSome result (λ e. told ≡ fault.Store e) }
+    ensures none { IfNone result (IsNoShortage told) }
+{
+    match told {
+        Fault::Store(cause) => Some(cause),
+        Fault::Gone(_) => None,
+        Fault::Cycle(_) => None,
+        Fault::NoValue(_) => None,
+        Fault::NoSource(_) => None,
     }
 }
 
-/// Nodes that are watched, in the order in which they were added. Contracts model it as effects: each a
-/// node, with what was last reported of it. A node that is watched twice has two effects.
-#[derive(Drop)]
-pub struct Effects<T> {
-    effects: Vec<Effect<T>>,
+// Reports a value of a row's node, unless it is the one that was last reported.
+pub(crate) fn hear_value<T: Value + Drop>(
+    row: &mut Option<Effect<T>>,
+    value: &T,
+    told: &mut Vec<Told<T>>,
+) -> Result<(), StoreError>
+    ensures heard { OnOk result ((e : Effect T) → row.old ≡ Some e → (f : Effect T) × (news : List (Told T))
+        × (row.new ≡ Some f) × (told.new.items ≡ told.old.items ++ news) × Hears T.is_same e (Ok value.now) f news
+        × (f.key ≡ e.key) × (f.told ≡ Some (Ok value.now))) }
+    ensures cause { IfErr result HasRunOut }
+    ensures kept { OnErr result (row.new ≡ row.old) }
+    ensures untold { OnErr result (told.new.items ≡ told.old.items) }
+{
+    match row {
+        Some(effect) => effect.hear_value(value, told),
+        None => Ok(()),
+    }
 }
 
-impl<T: Value + Drop> Effects<T> {
-    /// Creates an empty list of effects. Doesn't allocate.
-    ///
-    /// ```rust
-    /// let mut effects = Effects::new(alloc);
-    /// ```
-    pub fn new(alloc: Global) -> Self
-        ensures { result.effects.items ≡ [] }
+// Reports that a row's node has no value, unless that was last reported.
+pub(crate) fn hear_fault<T: Value + Drop>(
+    row: &mut Option<Effect<T>>,
+    fault: Fault,
+    told: &mut Vec<Told<T>>,
+) -> Result<(), StoreError>
+    ensures heard { OnOk result ((e : Effect T) → row.old ≡ Some e → (f : Effect T) × (news : List (Told T))
+        × (row.new ≡ Some f) × (told.new.items ≡ told.old.items ++ news) × Hears T.is_same e (Err fault) f news
+        × (f.key ≡ e.key)) }
+    ensures cause { IfErr result HasRunOut }
+    ensures kept { OnErr result (row.new ≡ row.old) }
+    ensures untold { OnErr result (told.new.items ≡ told.old.items) }
+{
+    match row {
+        Some(effect) => effect.hear_fault(fault, told),
+        None => Ok(()),
+    }
+}
+
+// Reports that a row's node was removed, and removes the effect.
+pub(crate) fn hear_end<T: Value + Drop>(
+    row: &mut Option<Effect<T>>,
+    told: &mut Vec<Told<T>>,
+) -> Result<(), StoreError>
+    ensures ended { OnOk result (row.new ≡ None) }
+    ensures told { OnOk result ((e : Effect T) → row.old ≡ Some e →
+        told.new.items ≡ told.old.items ++ telling e (Err (fault.Gone e.key)) ∷ []) }
+    ensures cause { IfErr result HasRunOut }
+    ensures kept { OnErr result (row.new ≡ row.old) }
+    ensures untold { OnErr result (told.new.items ≡ told.old.items) }
+{
+    let Some(effect) = row else {
+        return Ok(());
+    };
+    let key = effect.key;
+    let tag = effect.tag;
+    let answer = Err(Fault::Gone(key));
+    match told.push(Told { key, tag, answer }) {
+        Ok(()) => {}
+        Err(_) => return Err(StoreError::OutOfMemory),
+    }
+    *row = None;
+    Ok(())
+}
+
+impl<T: Drop> Effects<T> {
+    // No effects.
+    pub(crate) fn new(alloc: Global) -> Self
+        ensures { result.rows.items ≡ [] }
     {
         Effects {
-            effects: Vec::new(alloc),
+            rows: Vec::new(alloc),
+            dirty: DirtySlots::new(alloc),
         }
     }
 
-    /// Watches a node: the next flush reports what it means, and each later one what it means if that
-    /// has changed. Amortised O(1).
-    ///
-    /// # Errors
-    ///
-    /// If memory runs out. The effects are unchanged then.
-    ///
-    /// ```rust
-    /// effects.watch(total)?;
-    /// effects.flush(graph, &mut told)?;
-    /// ```
-    pub fn watch(&mut self, key: Key) -> Result<(), AllocError>
-        ensures watched { OnOk result (self.new.effects.items
-            ≡ self.old.effects.items ++ record { key = key; told = None } ∷ []) }
-        ensures refused { OnErr result (self.new.effects.items ≡ self.old.effects.items) }
+    // Makes room for a slot's effect. False if memory runs out.
+    pub(crate) fn reserve(&mut self, slot: usize) -> bool
+        ensures effects { (s : ℕ) → effect_at self.new.rows.items s ≡ effect_at self.old.rows.items s }
+        ensures dirty { self.new.dirty ≡ self.old.dirty }
+        ensures room { IsTrue result → slot < length self.new.rows.items }
     {
+        while self.rows.len() <= slot {
+            if self.rows.push(None).is_err() {
+                return false;
+            }
+        }
+        true
+    }
+
+    // The node and the number of a slot's effect.
+    pub(crate) fn at(&self, slot: usize) -> Option<(Key, u64)>
+        ensures { result ≡ effect_named (effect_at self.now.rows.items slot) }
+    {
+        match self.rows.get(slot) {
+            Some(Some(effect)) => Some((effect.key, effect.tag)),
+            _ => None,
+        }
+    }
+
+    // Whether what was reported of a slot's node is right, or it has no effect.
+    pub(crate) fn is_settled(&self, slot: usize) -> bool
+        ensures { IsTrue result → (e : Effect T) → effect_at self.now.rows.items slot ≡ Some e →
+            clean_at self.now.dirty.clean.items slot ≡ true }
+    {
+        match self.rows.get(slot) {
+            Some(Some(_)) => self.dirty.is_clean(slot),
+            _ => true,
+        }
+    }
+
+    // Replaces the effect of a node's slot, whose node and number are returned. Fails if memory runs out.
+    pub(crate) fn put(&mut self, key: Key, tag: u64) -> Result<Option<(Key, u64)>, AllocError>
+        ensures here { OnOk result (effect_at self.new.rows.items key.id.slot ≡ Some (record {
+          key = key;
+          tag = tag;
+          told = None;
+        })) }
+        ensures before { IfOk result (λ before. before ≡ effect_named (effect_at self.old.rows.items key.id.slot)) }
+        ensures others { (s : ℕ) → s ≢ key.id.slot → effect_at self.new.rows.items s ≡ effect_at self.old.rows.items s }
+        ensures refused { OnErr result ((s : ℕ) → effect_at self.new.rows.items s ≡ effect_at self.old.rows.items s) }
+        ensures flagged { OnOk result (HasFlagged self.old.dirty key.id.slot self.new.dirty) }
+        ensures alike { OnErr result (AreSameSlots self.old.dirty self.new.dirty) }
+    {
+        let slot = key.id.slot;
+        if !self.reserve(slot) {
+            return Err(AllocError);
+        }
+        if !self.dirty.reserve(slot) {
+            return Err(AllocError);
+        }
+        let before = self.at(slot);
         let told = None;
-        match self.effects.push(Effect { key, told }) {
-            Ok(()) => Ok(()),
-            Err(_) => Err(AllocError),
-        }
-    }
-
-    /// Stops watching a node: removes its effects. The others are unchanged, in order. Doesn't allocate,
-    /// and is O(n).
-    ///
-    /// ```rust
-    /// effects.unwatch(total);
-    /// ```
-    pub fn unwatch(&mut self, key: Key)
-        ensures { self.new.effects.items
-            ≡ filter (λ e. not (⟦<Key as PartialEq>⟧.eq e.key key)) self.old.effects.items }
-    {
-        self.effects.retain(|effect| effect.key != key);
-    }
-
-    /// Brings each watched node up to date, in order, and pushes one entry for each that means another
-    /// value than was last reported, or that no longer means one. No node's meaning changes.
-    ///
-    /// If a node means nothing, since it was removed, needs itself, or its rule returns no value, the
-    /// fault is reported once, and nothing more until the node means something. Its effect stays until
-    /// `unwatch`.
-    ///
-    /// Takes the time of a `refresh` of each watched node, and allocates for what is reported.
-    ///
-    /// # Errors
-    ///
-    /// `OutOfMemory`, or after 2^64 steps `NumbersExhausted`. The entries that were pushed by then are
-    /// right, and a later flush reports the rest.
-    ///
-    /// ```rust
-    /// graph.set(postage, 0)?;
-    /// effects.flush(graph, &mut told)?;
-    /// for change in told.iter() {
-    ///     println!(rt; "told: {:?}", change.answer)?;
-    /// }
-    /// ```
-    pub fn flush<R: Rule<T>, S: Storage<Node<T, R>>>(
-        &mut self,
-        graph: &mut Reactive<T, R, S>,
-        told: &mut Vec<Told<T>>,
-    ) -> Result<(), StoreError>
-        ensures told { (n : ℕ) × (news : List (Told T)) × (told.new.items ≡ told.old.items ++ news)
-            × AllHear T.is_same (plans_in R.plan graph.old) n self.old.effects.items self.new.effects.items news
-            × (OnOk result (n ≡ length self.old.effects.items)) }
-        ensures cause { IfErr result IsShort }
-        ensures plans { plans_in R.plan graph.new ≡ plans_in R.plan graph.old }
-        ensures kinds { kind_in graph.new ≡ kind_in graph.old }
-        ensures lasts { (k : Key) (v : T) → shown_in graph.old k ≡ Some v → shown_in graph.new k ≡ Some v }
-    {
-        for effect in self.effects.iter_mut() {
-            effect.hear(graph, told)?;
-        }
-        Ok(())
+        self.dirty.flag(slot);
+        self.rows[slot] = Some(Effect { key, tag, told });
+        Ok(before)
     }
 }

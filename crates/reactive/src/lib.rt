@@ -2,11 +2,12 @@
 //! values of the sources, whatever is cached and in whatever order they were set.
 //!
 //! A [`Key`] is a handle of a node. A [`Rule`] says what a memo computes from other nodes, which it
-//! reads through a [`Reads`]. A [`Reactive`] has the nodes in a store, and [`Effects`] report which of
-//! the watched nodes have changed. A set runs no rule: a memo is brought up to date when it is read, and
-//! its rule is run only if something that it read has another value.
+//! reads through a [`Reads`]. A [`Reactive`] has the nodes in a store, and reports which of the watched
+//! nodes have changed. A set runs no rule: a memo is brought up to date when it is read, and its rule is
+//! run only if something that it read has another value.
 #![tactic(auto)]
 
+mod blame;
 mod effects;
 mod fault;
 mod key;
@@ -19,9 +20,8 @@ mod reactive;
 mod reader;
 mod rule;
 mod scope;
-mod values;
 
-pub use crate::effects::{Effect, Effects, Told};
+pub use crate::effects::{Effect, Told};
 pub use crate::fault::Fault;
 pub use crate::key::Key;
 pub use crate::node::Node;
@@ -29,4 +29,4 @@ pub use crate::reactive::Reactive;
 pub use crate::reader::Reader;
 pub use crate::rule::{Reads, Rule};
 pub use crate::scope::Scope;
-pub use crate::values::{Items, Text, Value};
+pub use reactive_values::{Items, Text, Value};

@@ -2,12 +2,14 @@
 
 ghost use Rattle.std.specs.Prelude.{◌≡◌, ◌≢◌, ◌<◌, ◌≤◌, ◌+◌, ◌⊎◌, ◌++◌, ◌∷◌, [], ℕ, List, Option, None, Some, Bool, true, false, length, IsTrue, ◌||◌};
 ghost use Rattle.std.specs.List.{Contains, filter};
+ghost use Rattle.dirty_slots.specs.Blocks.{AreDoubted, clean_at};
 ghost use Rattle.reactive.specs.declared.key.Key.{Key};
 ghost use Rattle.reactive.specs.declared.links.Edge.{Edge};
 ghost use Rattle.reactive.specs.Links.{HasForgotten, IsRelinked, Keeps, Leans, edges_at, is_current, is_same, known_at, knows, owner_at};
-ghost use Rattle.reactive.specs.Visiting.{AreListed, Drops, HasRoom, IsDropped, count_known};
+ghost use Rattle.reactive.specs.Visiting.{AreToVisit, Drops, HaveRoom, IsDropped, count_known};
 
 use crate::key::Key;
+use dirty_slots::DirtySlots;
 use std::alloc::Global;
 
 /// A node that reads another: its slot, and the number of its links at that time.
@@ -205,8 +207,8 @@ impl Marks {
 
     // Forgets the reader of an edge, unless the edge is old, and lists it to be visited.
     fn drop_reader(&mut self, web: &Web, edge: Edge)
-        requires room { HasRoom self.old }
-        ensures room { HasRoom self.new }
+        requires room { HaveRoom self.old }
+        ensures room { HaveRoom self.new }
         ensures dropped { IsDropped web.now edge self.old self.new }
     {
         if !is_current(&web.owners, edge) {
@@ -228,11 +230,11 @@ impl Marks {
 
     // Forgets the readers of a slot, and lists them to be visited.
     fn drop_readers(&mut self, web: &Web, slot: usize)
-        requires room { HasRoom self.old }
-        ensures room { HasRoom self.new }
+        requires room { HaveRoom self.old }
+        ensures room { HaveRoom self.new }
         ensures fewer { count_known self.new.known.items + count_known self.new.known.items + self.new.left
             ≤ count_known self.old.known.items + count_known self.old.known.items + self.old.left }
-        ensures dropped { (before : List ℕ) → AreListed self.old before → (list : List ℕ) × AreListed self.new list
+        ensures dropped { (before : List ℕ) → AreToVisit self.old before → (list : List ℕ) × AreToVisit self.new list
             × Drops web.now self.old.known.items before slot self.new.known.items list }
     {
         let Some(edges) = web.readers.get(slot) else {
@@ -249,7 +251,7 @@ impl Marks {
         ensures others { (s : ℕ) → s ≢ slot →
             known_at self.new.known.items s ≡ known_at self.old.known.items s }
         ensures left { self.new.left ≡ 0 }
-        ensures room { HasRoom self.new }
+        ensures room { HaveRoom self.new }
     {
         self.left = 0;
         if slot < self.known.len() {
@@ -257,18 +259,24 @@ impl Marks {
         }
     }
 
-    // Forgets what the memo of a slot means, and what those mean that read it, directly or by others.
-    pub(crate) fn forget(&mut self, web: &Web, slot: usize)
+    // Forgets what the memo of a slot means, and what those mean that read it, directly or by others. What
+    // was reported of them is doubted.
+    pub(crate) fn forget(&mut self, web: &Web, dirty: &mut DirtySlots, slot: usize)
         ensures forgotten { HasForgotten web.now self.old.known.items slot self.new.known.items }
         ensures spared { (s : ℕ) → (known_at self.new.known.items s ≡ known_at self.old.known.items s)
             ⊎ Leans web.now (known_at self.old.known.items) s slot }
+        ensures doubted { AreDoubted dirty.old dirty.new }
+        ensures trusted { (s : ℕ) → clean_at dirty.new.clean.items s ≡ true →
+            (s ≢ slot) × (known_at self.new.known.items s ≡ known_at self.old.known.items s) }
     {
+        dirty.doubt(slot);
         self.begin(slot);
         self.drop_readers(web, slot);
         while self.left > 0 {
             let next = self.first;
             self.first = self.known[next].next;
             self.left -= 1;
+            dirty.doubt(next);
             self.drop_readers(web, next);
         }
     }

@@ -1,22 +1,24 @@
 //! The nodes of a store.
 
-ghost use Rattle.std.specs.Prelude.{◌≡◌, ◌≢◌, ◌<◌, ◌+◌, ◌^◌, ℕ, List, Option, Some, None, IfSome, IfNone, option_copied, take, IsTrue, slice_get};
+ghost use Rattle.std.specs.Prelude.{◌≡◌, ◌≢◌, ◌<◌, ◌+◌, ◌^◌, ℕ, List, Option, Some, None, IfSome, IfNone, option_copied, take, IsTrue};
 ghost use Rattle.std.specs.Prelude.{[], ◌∷◌, true, false, is_some, Ok, IsOk, IfOk, IfErr, OnOk, OnErr};
 ghost use Rattle.std.specs.Prelude.{map as list_map};
 ghost use Rattle.std.specs.Vec.{vec_items};
 ghost use Rattle.generational_core.specs.Slots.{free};
-ghost use Rattle.generational_sessions.specs.PlainStores.{IsSimple};
+ghost use Rattle.generational_laws.specs.PlainStores.{IsSimple};
 ghost use Rattle.generational_errors.specs.declared.error.StoreError.TheVariants.{NumbersExhausted, OutOfMemory};
 ghost use Rattle.reactive.specs.declared.fault.Fault.TheVariants as fault;
 ghost use Rattle.reactive.specs.declared.key.Key.{Key};
 ghost use Rattle.reactive.specs.declared.node.Node.{Node};
+ghost use Rattle.reactive.specs.Blaming.{AreBlamed, AreTrue};
 ghost use Rattle.reactive.specs.Changing.{IsChanged, IsResetTo};
-ghost use Rattle.reactive.specs.Chains.{GoesOn};
-ghost use Rattle.reactive.specs.Ending.{AreForgotten, AreSpared, HasLost};
+ghost use Rattle.reactive.specs.Chains.{GoesOn, IsOn};
+ghost use Rattle.reactive.specs.Ending.{AreForgotten, AreSpared, HasLostKeys};
+ghost use Rattle.reactive.specs.Watching.{AreDirtied};
 ghost use Rattle.reactive.specs.Links.{IsRelinked, Keeps, Owns, known_at, knows};
-ghost use Rattle.reactive.specs.Graphs.{IsUnruled, kinds_of};
+ghost use Rattle.reactive.specs.Graphs.{IsRuleless, kinds_of};
 ghost use Rattle.reactive.specs.Asking.{asked_by};
-ghost use Rattle.reactive.specs.Looks.{Finds, IsFoundBy, Looked, Verified};
+ghost use Rattle.reactive.specs.Looks.{RunFinds, IsFoundBy, Looked, Verified};
 ghost use Rattle.reactive.specs.Meaning.{Graph};
 ghost use Rattle.reactive.specs.Plans.{Asked, Ran};
 ghost use Rattle.reactive.specs.Refreshing.{IsAdvanced, IsOnTheWay, Refreshed, Went};
@@ -24,9 +26,10 @@ ghost use Rattle.reactive.specs.declared.look.Frame.{Frame};
 ghost use Rattle.reactive.specs.declared.look.Found.TheVariants as found;
 ghost use Rattle.reactive.specs.declared.look.Look.TheVariants as look;
 ghost use Rattle.reactive.specs.declared.look.Step.TheVariants as step;
-ghost use Rattle.reactive.specs.Settling.{IsLearned, IsLeft, IsSettled, Lasts};
-ghost use Rattle.reactive.specs.Tables.{AllStand, AreKnown, IsPut, IsSound, book, known_by, known_of, nodes_in, shown_by};
+ghost use Rattle.reactive.specs.Settling.{IsLearned, IsLeft, IsNodeSettled, Lasts};
+ghost use Rattle.reactive.specs.Tables.{AllStand, AreKnown, IsPut, IsSound, book, known_by, known_of, nodes_in, shown_from};
 
+use crate::blame::{Blame, keep_fault, kept_fault};
 use crate::fault::Fault;
 use crate::key::Key;
 use crate::links::{Links, Marks};
@@ -34,8 +37,10 @@ use crate::look::{Found, Frame, Look, Run, Step, Verdict};
 use crate::node::Node;
 use crate::reader::{Questions, Reader};
 use crate::rule::Rule;
-use crate::values::Value;
+use dirty_slots::DirtySlots;
 use generational_core::{GenerationalBox, Location, Refusal, Storage, StoreError};
+use reactive_values::Value;
+use stamped_values::StampedValues;
 use std::alloc::Global;
 use std::marker::PhantomData;
 
@@ -70,7 +75,7 @@ pub(crate) fn known_value<'a, T: 'a, R: 'a, S: Storage<Node<T, R>>>(
     marks: &Marks,
     key: Key,
 ) -> Option<&'a T>
-    ensures { option_copied result ≡ shown_by (nodes_in (S.state store.now)) marks.now.known.items key }
+    ensures { option_copied result ≡ shown_from (nodes_in (S.state store.now)) marks.now.known.items key }
 {
     match node_of(store, key) {
         Some(node) => node.known(marks.knows(key)),
@@ -144,7 +149,7 @@ impl<T: Value + Drop, R: Rule<T>, S: Storage<Node<T, R>>> Nodes<T, R, S> {
         requires simple { IsSimple (S.state self.old.store) }
         ensures simple { IsSimple (S.state self.new.store) }
         ensures kept { IsTrue result → (old : Node T R) → nodes_in (S.state self.old.store) key ≡ Some old →
-            (new : Node T R) × IsSettled old value reads self.old.revision new
+            (new : Node T R) × IsNodeSettled old value reads self.old.revision new
             × IsPut (nodes_in (S.state self.old.store)) key new (nodes_in (S.state self.new.store)) }
         ensures learned { IsTrue result → IsLearned (book (S.state self.old.store) self.old.links) key (book (S.state self.new.store) self.new.links) }
         ensures relinked { IsTrue result → IsRelinked self.old.links.web key reads.items self.new.links.web }
@@ -174,7 +179,7 @@ impl<T: Value + Drop, R: Rule<T>, S: Storage<Node<T, R>>> Nodes<T, R, S> {
         requires simple { IsSimple (S.state self.old.store) }
         ensures simple { IsSimple (S.state self.new.store) }
         ensures kept { IsTrue result → (old : Node T R) → nodes_in (S.state self.old.store) key ≡ Some old →
-            (new : Node T R) × IsSettled old value old.reads self.old.revision new
+            (new : Node T R) × IsNodeSettled old value old.reads self.old.revision new
             × IsPut (nodes_in (S.state self.old.store)) key new (nodes_in (S.state self.new.store)) }
         ensures learned { IsTrue result → IsLearned (book (S.state self.old.store) self.old.links) key (book (S.state self.new.store) self.new.links) }
         ensures failed { result ≡ false → IsLeft (book (S.state self.old.store) self.old.links) (book (S.state self.new.store) self.new.links) }
@@ -259,7 +264,7 @@ impl<T: Value + Drop, R: Rule<T>, S: Storage<Node<T, R>>> Nodes<T, R, S> {
         ensures finds { (G : Graph T) (n : Node T R) (r : R) →
             IsSound R.plan G self.now.revision (book (S.state self.now.store) self.now.links) →
             nodes_in (S.state self.now.store) key ≡ Some n → n.rule ≡ Some r →
-            Finds G self.now.revision (book (S.state self.now.store) self.now.links) key result }
+            RunFinds G self.now.revision (book (S.state self.now.store) self.now.links) key result }
         ensures owned { (v : T) → result ≡ found.Again v → Owns self.now.links.web key }
     {
         let Some(node) = node_of(&self.store, key) else {
@@ -437,8 +442,7 @@ impl<T: Value + Drop, R: Rule<T>, S: Storage<Node<T, R>>> Nodes<T, R, S> {
 
     // Whether a node is recorded to be on a path, and is.
     fn is_on(&self, path: &Vec<Frame>, key: Key) -> bool
-        ensures { IsTrue result → (place : ℕ) × (f : Frame)
-            × (slice_get path.now.items place ≡ Some f) × (f.key ≡ key) }
+        ensures { IsTrue result → IsOn path.now.items key }
     {
         let Some(place) = self.places.get(key.id.slot) else {
             return false;
@@ -451,7 +455,12 @@ impl<T: Value + Drop, R: Rule<T>, S: Storage<Node<T, R>>> Nodes<T, R, S> {
 
     // Makes one step: back to the node that needs this one, or on to one that it needs. None if the
     // first node is known.
-    fn go_on(&mut self, path: &mut Vec<Frame>, top: Frame) -> Result<Option<Frame>, Fault>
+    fn go_on(
+        &mut self,
+        path: &mut Vec<Frame>,
+        top: Frame,
+        faults: &StampedValues<Blame>,
+    ) -> Result<Option<Frame>, Fault>
         requires simple { IsSimple (S.state self.old.store) }
         ensures simple { IsSimple (S.state self.new.store) }
         ensures revision { self.new.revision ≡ self.old.revision }
@@ -460,6 +469,10 @@ impl<T: Value + Drop, R: Rule<T>, S: Storage<Node<T, R>>> Nodes<T, R, S> {
             path.old.items top →
             Went R.plan G self.old.revision (book (S.state self.new.store) self.new.links) start
             path.new.items result }
+        ensures blamed { (G : Graph T) (start : Key) →
+            IsOnTheWay R.plan G self.old.revision (book (S.state self.old.store) self.old.links) start path.old.items top →
+            AreTrue G (kinds_of (nodes_in (S.state self.old.store))) faults.now →
+            IfErr result (AreBlamed G (kinds_of (nodes_in (S.state self.old.store))) start path.new.items top.key) }
         ensures kinds { kinds_of (nodes_in (S.state self.new.store)) ≡ kinds_of (nodes_in (S.state self.old.store)) }
         ensures lasts { (G : Graph T) (start : Key) →
             IsOnTheWay R.plan G self.old.revision (book (S.state self.old.store) self.old.links) start path.old.items top → Lasts (book (S.state self.old.store) self.old.links) (book (S.state self.new.store) self.new.links) }
@@ -473,6 +486,9 @@ impl<T: Value + Drop, R: Rule<T>, S: Storage<Node<T, R>>> Nodes<T, R, S> {
             },
             Step::Needs(next, place) => {
                 let key = top.key;
+                if let Some(fault) = kept_fault(faults, next) {
+                    return Err(fault);
+                }
                 if !self.note(key, path.len()) {
                     return Err(Fault::Store(StoreError::OutOfMemory));
                 }
@@ -492,8 +508,12 @@ impl<T: Value + Drop, R: Rule<T>, S: Storage<Node<T, R>>> Nodes<T, R, S> {
         }
     }
 
-    // Brings a node up to date, and those that it needs.
-    pub(crate) fn refresh(&mut self, key: Key) -> Result<(), Fault>
+    // Brings a node up to date, and those that it needs. A fault is kept of those that it is true of.
+    pub(crate) fn refresh(
+        &mut self,
+        key: Key,
+        faults: &mut StampedValues<Blame>,
+    ) -> Result<(), Fault>
         requires simple { IsSimple (S.state self.old.store) }
         ensures simple { IsSimple (S.state self.new.store) }
         ensures revision { self.new.revision ≡ self.old.revision }
@@ -502,20 +522,33 @@ impl<T: Value + Drop, R: Rule<T>, S: Storage<Node<T, R>>> Nodes<T, R, S> {
             IsSound R.plan G self.old.revision (book (S.state self.new.store) self.new.links) }
         ensures refreshed { (G : Graph T) →
             IsSound R.plan G self.old.revision (book (S.state self.old.store) self.old.links) →
+            AreTrue G (kinds_of (nodes_in (S.state self.old.store))) faults.old →
             Refreshed G (book (S.state self.new.store) self.new.links) key result }
+        ensures blamed { (G : Graph T) →
+            IsSound R.plan G self.old.revision (book (S.state self.old.store) self.old.links) →
+            AreTrue G (kinds_of (nodes_in (S.state self.old.store))) faults.old →
+            AreTrue G (kinds_of (nodes_in (S.state self.old.store))) faults.new }
         ensures kinds { kinds_of (nodes_in (S.state self.new.store)) ≡ kinds_of (nodes_in (S.state self.old.store)) }
         ensures lasts { (G : Graph T) → IsSound R.plan G self.old.revision (book (S.state self.old.store) self.old.links) → Lasts (book (S.state self.old.store) self.old.links) (book (S.state self.new.store) self.new.links) }
-        ensures known { is_some (known_of (book (S.state self.old.store) self.old.links) key) ≡ true →
-            IsOk result }
+        ensures known { (G : Graph T) →
+            IsSound R.plan G self.old.revision (book (S.state self.old.store) self.old.links) →
+            AreTrue G (kinds_of (nodes_in (S.state self.old.store))) faults.old →
+            is_some (known_of (book (S.state self.old.store) self.old.links) key) ≡ true → IsOk result }
     {
+        if let Some(fault) = kept_fault(faults, key) {
+            return Err(fault);
+        }
         let mut path: Vec<Frame> = Vec::new(self.alloc);
         let place = Some(0);
         let mut top = Frame { key, place };
         for _step in 0..u64::MAX {
-            match self.go_on(&mut path, top) {
+            match self.go_on(&mut path, top, faults) {
                 Ok(Some(next)) => top = next,
                 Ok(None) => return Ok(()),
-                Err(fault) => return Err(fault),
+                Err(fault) => {
+                    keep_fault(faults, &path, top.key, fault);
+                    return Err(fault);
+                }
             }
         }
         Err(Fault::Store(StoreError::NumbersExhausted))
@@ -526,12 +559,15 @@ impl<T: Value + Drop, R: Rule<T>, S: Storage<Node<T, R>>> Nodes<T, R, S> {
         &mut self,
         node: Node<T, R>,
         here: Location,
+        dirty: &mut DirtySlots,
     ) -> Result<Key, Refusal<Node<T, R>>>
         requires simple { IsSimple (S.state self.old.store) }
         ensures simple { IsSimple (S.state self.new.store) }
         ensures put { IfOk result (λ key. (nodes_in (S.state self.old.store) key ≡ None)
             × IsPut (nodes_in (S.state self.old.store)) key node (nodes_in (S.state self.new.store))) }
         ensures forgotten { OnOk result (AreForgotten (book (S.state self.old.store) self.old.links) (book (S.state self.new.store) self.new.links)) }
+        ensures dirtied { OnOk result (AreDirtied (book (S.state self.old.store) self.old.links) dirty.old (book (S.state self.new.store) self.new.links) dirty.new) }
+        ensures dirty { OnErr result (dirty.new ≡ dirty.old) }
         ensures refused { OnErr result (S.state self.new.store ≡ S.state self.old.store) }
         ensures links { OnErr result ((self.new.links.marks.known.items ≡ self.old.links.marks.known.items)
             × (self.new.links.web ≡ self.old.links.web)) }
@@ -543,7 +579,7 @@ impl<T: Value + Drop, R: Rule<T>, S: Storage<Node<T, R>>> Nodes<T, R, S> {
         match GenerationalBox::leak(&mut self.store, node, here) {
             Ok(raw) => {
                 let key = Key { id: raw.id() };
-                self.links.marks.forget(&self.links.web, key.id.slot);
+                self.links.marks.forget(&self.links.web, dirty, key.id.slot);
                 Ok(key)
             }
             Err(refusal) => Err(refusal),
@@ -551,7 +587,7 @@ impl<T: Value + Drop, R: Rule<T>, S: Storage<Node<T, R>>> Nodes<T, R, S> {
     }
 
     // Removes a node, unless it was removed already.
-    fn remove(&mut self, key: Key)
+    fn remove(&mut self, key: Key, dirty: &mut DirtySlots)
         requires simple { IsSimple (S.state self.old.store) }
         ensures simple { IsSimple (S.state self.new.store) }
         ensures ended { nodes_in (S.state self.new.store) key ≡ None }
@@ -559,6 +595,7 @@ impl<T: Value + Drop, R: Rule<T>, S: Storage<Node<T, R>>> Nodes<T, R, S> {
             nodes_in (S.state self.new.store) j ≡ nodes_in (S.state self.old.store) j }
         ensures forgotten { AreForgotten (book (S.state self.old.store) self.old.links) (book (S.state self.new.store) self.new.links) }
         ensures spared { AreSpared (book (S.state self.old.store) self.old.links) (key ∷ []) (book (S.state self.new.store) self.new.links) }
+        ensures dirtied { AreDirtied (book (S.state self.old.store) self.old.links) dirty.old (book (S.state self.new.store) self.new.links) dirty.new }
         ensures revision { self.new.revision ≡ self.old.revision }
     {
         let Some(pointer) = self.store.find(key.id) else {
@@ -571,11 +608,17 @@ impl<T: Value + Drop, R: Rule<T>, S: Storage<Node<T, R>>> Nodes<T, R, S> {
             Ok(()) => {}
             Err(_) => unreachable!(),
         }
-        self.links.marks.forget(&self.links.web, key.id.slot);
+        self.links.marks.forget(&self.links.web, dirty, key.id.slot);
     }
 
     // Sets the rule or the value of a key's node, in a new revision.
-    pub(crate) fn reset(&mut self, key: Key, rule: Option<R>, value: Option<T>) -> Result<(), Fault>
+    pub(crate) fn reset(
+        &mut self,
+        key: Key,
+        rule: Option<R>,
+        value: Option<T>,
+        dirty: &mut DirtySlots,
+    ) -> Result<(), Fault>
         requires simple { IsSimple (S.state self.old.store) }
         ensures simple { IsSimple (S.state self.new.store) }
         ensures put { OnOk result ((n : Node T R) × IsResetTo rule value self.new.revision n
@@ -584,15 +627,13 @@ impl<T: Value + Drop, R: Rule<T>, S: Storage<Node<T, R>>> Nodes<T, R, S> {
         ensures live { OnOk result (nodes_in (S.state self.old.store) key ≢ None) }
         ensures forgotten { OnOk result (AreForgotten (book (S.state self.old.store) self.old.links) (book (S.state self.new.store) self.new.links)) }
         ensures spared { OnOk result (AreSpared (book (S.state self.old.store) self.old.links) (key ∷ []) (book (S.state self.new.store) self.new.links)) }
+        ensures dirtied { OnOk result (AreDirtied (book (S.state self.old.store) self.old.links) dirty.old (book (S.state self.new.store) self.new.links) dirty.new) }
+        ensures dirty { OnErr result (dirty.new ≡ dirty.old) }
         ensures refused { OnErr result ((S.state self.new.store ≡ S.state self.old.store)
             × (self.new.revision ≡ self.old.revision)
             × (self.new.links.marks.known.items ≡ self.old.links.marks.known.items)
             × (self.new.links.web ≡ self.old.links.web)) }
-        ensures cause { IfErr result (IsUnruled (record {
-          state = S.state self.old.store;
-          revision = self.old.revision;
-          known = self.old.links.marks.known.items;
-        }) key) }
+        ensures cause { IfErr result (IsRuleless (kinds_of (nodes_in (S.state self.old.store))) self.old.revision key) }
     {
         let Some(next) = self.revision.checked_add(1) else {
             return Err(Fault::Store(StoreError::NumbersExhausted));
@@ -603,20 +644,22 @@ impl<T: Value + Drop, R: Rule<T>, S: Storage<Node<T, R>>> Nodes<T, R, S> {
         }) else {
             return Err(Fault::Gone(key));
         };
-        self.links.marks.forget(&self.links.web, key.id.slot);
+        self.links.marks.forget(&self.links.web, dirty, key.id.slot);
         self.revision = next;
         Ok(())
     }
 
     // Removes nodes, in a new revision.
-    pub(crate) fn remove_all(&mut self, keys: &[Key]) -> Result<(), Fault>
+    pub(crate) fn remove_all(&mut self, keys: &[Key], dirty: &mut DirtySlots) -> Result<(), Fault>
         requires simple { IsSimple (S.state self.old.store) }
         ensures simple { IsSimple (S.state self.new.store) }
-        ensures lost { OnOk result (HasLost (nodes_in (S.state self.old.store)) keys.now
+        ensures lost { OnOk result (HasLostKeys (nodes_in (S.state self.old.store)) keys.now
             (nodes_in (S.state self.new.store))) }
         ensures later { OnOk result (self.old.revision < self.new.revision) }
         ensures forgotten { OnOk result (AreForgotten (book (S.state self.old.store) self.old.links) (book (S.state self.new.store) self.new.links)) }
         ensures spared { OnOk result (AreSpared (book (S.state self.old.store) self.old.links) keys.now (book (S.state self.new.store) self.new.links)) }
+        ensures dirtied { OnOk result (AreDirtied (book (S.state self.old.store) self.old.links) dirty.old (book (S.state self.new.store) self.new.links) dirty.new) }
+        ensures dirty { OnErr result (dirty.new ≡ dirty.old) }
         ensures refused { OnErr result ((S.state self.new.store ≡ S.state self.old.store)
             × (self.new.revision ≡ self.old.revision)
             × (self.new.links.marks.known.items ≡ self.old.links.marks.known.items)
@@ -627,7 +670,7 @@ impl<T: Value + Drop, R: Rule<T>, S: Storage<Node<T, R>>> Nodes<T, R, S> {
             return Err(Fault::Store(StoreError::NumbersExhausted));
         };
         for key in keys {
-            self.remove(*key);
+            self.remove(*key, dirty);
         }
         self.revision = next;
         Ok(())

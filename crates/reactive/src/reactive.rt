@@ -1,27 +1,40 @@
 //! Graphs of sources and memos.
 
-ghost use Rattle.std.specs.Prelude.{◌≡◌, ◌≢◌, Some, None, IsOk, IfOk, IfErr, IfSome, OnOk, OnErr, IsTrue, option_copied};
+ghost use Rattle.std.specs.Prelude.{◌≡◌, ◌≢◌, ◌<◌, ◌≤◌, ◌+◌, ◌*◌, ◌^◌, ◌++◌, ◌⊎◌, ℕ, List, [], length, Option, Some, None};
+ghost use Rattle.std.specs.Prelude.{false, IsOk, IfOk, IfErr, IfSome, IfNone, OnOk, OnErr, IsTrue, option_copied};
 ghost use Rattle.generational_core.specs.Conditions.{IsFresh};
 ghost use Rattle.generational_core.specs.Slots.{free};
 ghost use Rattle.reactive.specs.declared.fault.Fault.TheVariants as fault;
 ghost use Rattle.reactive.specs.declared.key.Key.{Key};
 ghost use Rattle.reactive.specs.declared.node.Node.{Node};
-ghost use Rattle.reactive.specs.Ending.{IsAmong};
-ghost use Rattle.reactive.specs.Graphs.{HasKind, HasPlan, IsLast, IsUnruled, IsUnset, kind_in, plans_in, shown_in};
+ghost use Rattle.reactive.specs.declared.effects.Effect.{Effect};
+ghost use Rattle.reactive.specs.declared.effects.Told.{Told};
+ghost use Rattle.reactive.specs.Ending.{IsKeyAmong};
+ghost use Rattle.reactive.specs.Flushing.{HasListened};
+ghost use Rattle.reactive.specs.Graphs.{HasKind, HasPlan, HasSameNodes, IsLast, IsUnruled, IsUnset, IsUnwatched};
+ghost use Rattle.reactive.specs.Graphs.{kind_in, lives, plans_in, shown_in};
+ghost use Rattle.reactive.specs.Hearing.{AllHear, IsTrueOf, effect_named, named_key};
+ghost use Rattle.dirty_slots.specs.Blocks.{IsIn};
+ghost use Rattle.reactive.specs.Watching.{effect_at};
 ghost use Rattle.reactive.specs.Graphs.Kind.{NoNode, Source, Memo};
 ghost use Rattle.generational_errors.specs.declared.error.StoreError.TheVariants.{NumbersExhausted, OutOfMemory};
 ghost use Rattle.reactive.specs.Meaning.{Means, Reaches};
 ghost use Rattle.reactive.specs.Plans.{Give, Stop};
-ghost use Rattle.reactive.specs.Refreshing.{Answers, Blames};
+ghost use Rattle.reactive.specs.Reading.{CameFrom};
+ghost use Rattle.reactive.specs.Refreshing.{Answers, Blames, HasRunOut};
 
+use crate::blame::Blame;
+use crate::effects::{Effects, Told, hear_end, hear_fault, hear_value, remove, shortage};
 use crate::fault::Fault;
 use crate::key::Key;
 use crate::links::{Links, Marks, Web};
 use crate::node::Node;
 use crate::nodes::{Nodes, known_value, node_of};
 use crate::rule::Rule;
-use crate::values::Value;
+use dirty_slots::block_end;
 use generational_core::{Location, Storage, StoreError};
+use reactive_values::Value;
+use stamped_values::StampedValues;
 use std::alloc::Global;
 use std::marker::{Model, PhantomData};
 
@@ -33,12 +46,16 @@ use std::marker::{Model, PhantomData};
 #[derive(Drop)]
 pub struct Reactive<T: Value + Drop, R: Rule<T>, S: Storage<Node<T, R>>> {
     nodes: Nodes<T, R, S>,
+    effects: Effects<T>,
+    // why nodes mean nothing, as far as that was found out since the last change
+    faults: StampedValues<Blame>,
 }
 
 impl<T: Value + Drop, R: Rule<T>, S: Storage<Node<T, R>>> Model for Reactive<T, R, S> {
     ghost use Rattle.std.specs.Coded.{codes};
     ghost use Rattle.std.specs.FinMap as map;
-    ghost use Rattle.reactive.specs.Graphs.{GraphState, IsKept};
+    ghost use Rattle.reactive.specs.Blaming.{IsGraphWhole};
+    ghost use Rattle.reactive.specs.Graphs.{GraphState};
 
     ghost Value = { GraphState T R };
 
@@ -48,14 +65,16 @@ impl<T: Value + Drop, R: Rule<T>, S: Storage<Node<T, R>>> Model for Reactive<T, 
       state = S.state g.nodes.store;
       revision = g.nodes.revision;
       known = g.nodes.links.marks.known.items;
+      effects = g.effects.rows.items;
     } };
 
-    ghost invariant = { λ g. IsKept R.plan
+    ghost invariant = { λ g. IsGraphWhole R.plan
         (record {
           state = S.state g.nodes.store;
           revision = g.nodes.revision;
           known = g.nodes.links.marks.known.items;
-        }) g.nodes.links.web };
+          effects = g.effects.rows.items;
+        }) g.effects.dirty g.nodes.links.web g.faults };
 }
 
 impl<T: Value + Drop, R: Rule<T>, S: Storage<Node<T, R>>> Reactive<T, R, S> {
@@ -67,7 +86,8 @@ impl<T: Value + Drop, R: Rule<T>, S: Storage<Node<T, R>>> Reactive<T, R, S> {
     /// ```
     pub fn new(alloc: Global, store: S) -> Self
         requires { IsFresh (S.state store) }
-        ensures { (k : Key) → plans_in R.plan result k ≡ Stop }
+        ensures plans { (k : Key) → plans_in R.plan result k ≡ Stop }
+        ensures effects { result.effects ≡ [] }
     {
         let marks = Marks {
             known: Vec::new(alloc),
@@ -90,6 +110,8 @@ impl<T: Value + Drop, R: Rule<T>, S: Storage<Node<T, R>>> Reactive<T, R, S> {
                 links: Links { marks, web },
                 marker: PhantomData,
             },
+            effects: Effects::new(alloc),
+            faults: StampedValues::new(alloc),
         }
     }
 
@@ -120,6 +142,7 @@ impl<T: Value + Drop, R: Rule<T>, S: Storage<Node<T, R>>> Reactive<T, R, S> {
         ensures new { IfOk result (λ key. kind_in self.old key ≡ NoNode) }
         ensures refused { OnErr result (self.new ≡ self.old) }
         ensures cause { IfErr result (λ cause. cause ≡ OutOfMemory) }
+        ensures effects { self.new.effects ≡ self.old.effects }
         ensures short { OnErr result (free self.old.state ≡ 0) }
     {
         let node = Node {
@@ -129,7 +152,8 @@ impl<T: Value + Drop, R: Rule<T>, S: Storage<Node<T, R>>> Reactive<T, R, S> {
             changed: self.nodes.revision,
             checked: 0,
         };
-        match self.nodes.insert(node, here) {
+        self.faults.clear();
+        match self.nodes.insert(node, here, &mut self.effects.dirty) {
             Ok(key) => Ok(key),
             Err(refusal) => Err(refusal.cause),
         }
@@ -152,6 +176,7 @@ impl<T: Value + Drop, R: Rule<T>, S: Storage<Node<T, R>>> Reactive<T, R, S> {
         ensures new { IfOk result (λ key. kind_in self.old key ≡ NoNode) }
         ensures refused { OnErr result (self.new ≡ self.old) }
         ensures cause { IfErr result (λ cause. cause ≡ OutOfMemory) }
+        ensures effects { self.new.effects ≡ self.old.effects }
         ensures short { OnErr result (free self.old.state ≡ 0) }
     {
         let node = Node {
@@ -161,7 +186,8 @@ impl<T: Value + Drop, R: Rule<T>, S: Storage<Node<T, R>>> Reactive<T, R, S> {
             changed: self.nodes.revision,
             checked: 0,
         };
-        match self.nodes.insert(node, here) {
+        self.faults.clear();
+        match self.nodes.insert(node, here, &mut self.effects.dirty) {
             Ok(key) => Ok(key),
             Err(refusal) => Err(refusal.cause),
         }
@@ -184,7 +210,8 @@ impl<T: Value + Drop, R: Rule<T>, S: Storage<Node<T, R>>> Reactive<T, R, S> {
     /// - `NoValue` if a rule returns none.
     /// - `Store` of `OutOfMemory`, or of `NumbersExhausted` after 2^64 steps.
     ///
-    /// A later call starts again.
+    /// Such a fault is kept until something is added, set or removed, for the node and for each between it
+    /// and the one at fault: a later call for one of them returns it in O(1). After `Store` it starts again.
     ///
     /// ```rust
     /// graph.refresh(key)?;
@@ -200,9 +227,10 @@ impl<T: Value + Drop, R: Rule<T>, S: Storage<Node<T, R>>> Reactive<T, R, S> {
         ensures plans { plans_in R.plan self.new ≡ plans_in R.plan self.old }
         ensures kinds { kind_in self.new ≡ kind_in self.old }
         ensures lasts { (k : Key) (v : T) → shown_in self.old k ≡ Some v → shown_in self.new k ≡ Some v }
+        ensures effects { self.new.effects ≡ self.old.effects }
         ensures known { shown_in self.old key ≢ None → IsOk result }
     {
-        self.nodes.refresh(key)
+        self.nodes.refresh(key, &mut self.faults)
     }
 
     /// Borrows the value of a node, if it is known without a step, like every source's: what the node
@@ -222,6 +250,33 @@ impl<T: Value + Drop, R: Rule<T>, S: Storage<Node<T, R>>> Reactive<T, R, S> {
         known_value(&self.nodes.store, &self.nodes.links.marks, key)
     }
 
+    /// The nodes that a node's value came from, if it is known without a step: what its rule read, in
+    /// order, a node as often as it was read. A source's value came from none. Doesn't allocate. O(1).
+    ///
+    /// ```rust
+    /// graph.refresh(memo)?;
+    /// match graph.reads(memo) {
+    ///     Some(parts) => Ok(parts),
+    ///     None => unreachable!(),
+    /// }
+    /// ```
+    pub fn reads(&self, key: Key) -> Option<&[Key]>
+        ensures reads { IfSome result (λ keys. (v : T) × (shown_in self.now key ≡ Some v)
+            × CameFrom (plans_in R.plan self.now) key keys.now v) }
+        ensures unknown { IfNone result (shown_in self.now key ≡ None) }
+    {
+        match node_of(&self.nodes.store, key) {
+            Some(node) => {
+                if node.is_known(self.nodes.links.marks.knows(key)) {
+                    Some(node.reads.as_slice())
+                } else {
+                    None
+                }
+            }
+            None => None,
+        }
+    }
+
     /// Brings a node up to date, and returns a copy of what it means now. No node's meaning changes.
     ///
     /// # Errors
@@ -239,6 +294,7 @@ impl<T: Value + Drop, R: Rule<T>, S: Storage<Node<T, R>>> Reactive<T, R, S> {
         ensures kinds { kind_in self.new ≡ kind_in self.old }
         ensures shown { IfOk result (λ v. shown_in self.new key ≡ Some v) }
         ensures lasts { (k : Key) (v : T) → shown_in self.old k ≡ Some v → shown_in self.new k ≡ Some v }
+        ensures effects { self.new.effects ≡ self.old.effects }
         ensures known { ((v : T) → T.is_plain v) → shown_in self.old key ≢ None → IsOk result }
     {
         match self.refresh(key) {
@@ -276,11 +332,16 @@ impl<T: Value + Drop, R: Rule<T>, S: Storage<Node<T, R>>> Reactive<T, R, S> {
         ensures source { OnOk result (kind_in self.old key ≡ Source) }
         ensures unaffected { (k : Key) → (Reaches (plans_in R.plan self.old) k key → ⊥) → shown_in self.new k ≡ shown_in self.old k }
         ensures refused { OnErr result (self.new ≡ self.old) }
+        ensures effects { self.new.effects ≡ self.old.effects }
         ensures cause { IfErr result (IsUnset self.old key) }
     {
         match self.is_set(key, &value) {
             Ok(true) => Ok(()),
-            Ok(false) => self.nodes.reset(key, None, Some(value)),
+            Ok(false) => {
+                self.faults.clear();
+                let dirty = &mut self.effects.dirty;
+                self.nodes.reset(key, None, Some(value), dirty)
+            }
             Err(fault) => Err(fault),
         }
     }
@@ -322,9 +383,12 @@ impl<T: Value + Drop, R: Rule<T>, S: Storage<Node<T, R>>> Reactive<T, R, S> {
         ensures live { OnOk result (kind_in self.old key ≢ NoNode) }
         ensures unaffected { (k : Key) → (Reaches (plans_in R.plan self.old) k key → ⊥) → shown_in self.new k ≡ shown_in self.old k }
         ensures refused { OnErr result (self.new ≡ self.old) }
+        ensures effects { self.new.effects ≡ self.old.effects }
         ensures cause { IfErr result (IsUnruled self.old key) }
     {
-        self.nodes.reset(key, Some(rule), None)
+        self.faults.clear();
+        self.nodes
+            .reset(key, Some(rule), None, &mut self.effects.dirty)
     }
 
     /// Removes the nodes of these keys, except those that were removed already, and no others. What
@@ -343,16 +407,328 @@ impl<T: Value + Drop, R: Rule<T>, S: Storage<Node<T, R>>> Reactive<T, R, S> {
     /// }
     /// ```
     pub fn end_all(&mut self, keys: &[Key]) -> Result<(), Fault>
-        ensures ended { OnOk result ((k : Key) → IsAmong k keys.now → plans_in R.plan self.new k ≡ Stop) }
-        ensures gone { OnOk result ((k : Key) → IsAmong k keys.now → kind_in self.new k ≡ NoNode) }
-        ensures others { (k : Key) → (IsAmong k keys.now → ⊥) →
+        ensures ended { OnOk result ((k : Key) → IsKeyAmong k keys.now → plans_in R.plan self.new k ≡ Stop) }
+        ensures gone { OnOk result ((k : Key) → IsKeyAmong k keys.now → kind_in self.new k ≡ NoNode) }
+        ensures others { (k : Key) → (IsKeyAmong k keys.now → ⊥) →
             plans_in R.plan self.new k ≡ plans_in R.plan self.old k }
-        ensures kept { (k : Key) → (IsAmong k keys.now → ⊥) → kind_in self.new k ≡ kind_in self.old k }
-        ensures unaffected { (k : Key) → ((j : Key) → IsAmong j keys.now → Reaches (plans_in R.plan self.old) k j → ⊥) →
+        ensures kept { (k : Key) → (IsKeyAmong k keys.now → ⊥) → kind_in self.new k ≡ kind_in self.old k }
+        ensures unaffected { (k : Key) → ((j : Key) → IsKeyAmong j keys.now → Reaches (plans_in R.plan self.old) k j → ⊥) →
             shown_in self.new k ≡ shown_in self.old k }
         ensures refused { OnErr result (self.new ≡ self.old) }
+        ensures effects { self.new.effects ≡ self.old.effects }
         ensures cause { IfErr result (λ f. (f ≡ fault.Store NumbersExhausted) × IsLast self.old) }
     {
-        self.nodes.remove_all(keys)
+        self.faults.clear();
+        self.nodes.remove_all(keys, &mut self.effects.dirty)
+    }
+
+    /// Whether a node is in the graph: false of one that was removed, and of another graph's. Doesn't
+    /// allocate. O(1).
+    pub fn is_live(&self, key: Key) -> bool
+        ensures { result ≡ lives (kind_in self.now key) }
+    {
+        node_of(&self.nodes.store, key).is_some()
+    }
+
+    /// Watches a node, with a number of yours: the next flush reports what it means, and each later one
+    /// what it means if that has changed. A node has at most one effect.
+    ///
+    /// Returns the node and the number of the effect that this one replaces, if there is one: of the same
+    /// node, or of a removed one that had the same slot, and whose end no flush has reported. Every other
+    /// effect is unchanged. Amortised O(1) a slot.
+    ///
+    /// # Errors
+    ///
+    /// - `Gone` if the node was removed, or belongs to another graph.
+    /// - `Store` of `OutOfMemory`.
+    ///
+    /// Every effect is unchanged then.
+    ///
+    /// ```rust
+    /// graph.watch(total, 7)?;
+    /// graph.flush(&mut told)?;
+    /// ```
+    pub fn watch(&mut self, key: Key, tag: u64) -> Result<Option<(Key, u64)>, Fault>
+        ensures watched { OnOk result (effect_at self.new.effects key.id.slot ≡ Some (record {
+          key = key;
+          tag = tag;
+          told = None;
+        })) }
+        ensures replaced { IfOk result (λ before. before ≡ effect_named (effect_at self.old.effects key.id.slot)) }
+        ensures others { (s : ℕ) → s ≢ key.id.slot → effect_at self.new.effects s ≡ effect_at self.old.effects s }
+        ensures live { OnOk result (kind_in self.old key ≢ NoNode) }
+        ensures nodes { HasSameNodes self.old self.new }
+        ensures refused { OnErr result ((s : ℕ) → effect_at self.new.effects s ≡ effect_at self.old.effects s) }
+        ensures cause { IfErr result (IsUnwatched self.old key) }
+    {
+        if !self.is_live(key) {
+            return Err(Fault::Gone(key));
+        }
+        match self.effects.put(key, tag) {
+            Ok(before) => Ok(before),
+            Err(_) => Err(Fault::Store(StoreError::OutOfMemory)),
+        }
+    }
+
+    /// Whether a node is watched. Doesn't allocate. O(1).
+    pub fn is_watched(&self, key: Key) -> bool
+        ensures yes { IsTrue result → named_key (effect_at self.now.effects key.id.slot) ≡ Some key }
+        ensures no { result ≡ false → named_key (effect_at self.now.effects key.id.slot) ≢ Some key }
+    {
+        match self.effects.at(key.id.slot) {
+            Some((watched, _)) => watched == key,
+            None => false,
+        }
+    }
+
+    /// Stops watching a node, if it is watched. Every other effect is unchanged. Doesn't allocate. O(1).
+    ///
+    /// ```rust
+    /// graph.unwatch(total);
+    /// ```
+    pub fn unwatch(&mut self, key: Key)
+        ensures gone { named_key (effect_at self.new.effects key.id.slot) ≢ Some key }
+        ensures kept { named_key (effect_at self.old.effects key.id.slot) ≢ Some key → self.new ≡ self.old }
+        ensures others { (s : ℕ) → s ≢ key.id.slot → effect_at self.new.effects s ≡ effect_at self.old.effects s }
+        ensures nodes { HasSameNodes self.old self.new }
+    {
+        if self.is_watched(key) {
+            remove(&mut self.effects.rows[key.id.slot]);
+        }
+    }
+
+    // The node that a slot's effect watches.
+    fn watched_at(&self, slot: usize) -> Option<Key>
+        ensures some { IfSome result (λ k. named_key (effect_at self.now.effects slot) ≡ Some k) }
+        ensures none { IfNone result (HasListened T.is_same R.plan self.now slot self.now []) }
+    {
+        match self.effects.at(slot) {
+            Some((key, _)) => Some(key),
+            None => None,
+        }
+    }
+
+    // Reports the known value of a slot's watched node, unless it is the one that was last reported.
+    fn hear_value(
+        &mut self,
+        slot: usize,
+        key: Key,
+        told: &mut Vec<Told<T>>,
+    ) -> Result<(), StoreError>
+        requires shown { shown_in self.old key ≢ None }
+        requires watched { named_key (effect_at self.old.effects slot) ≡ Some key }
+        ensures heard { OnOk result ((news : List (Told T)) × (told.new.items ≡ told.old.items ++ news)
+            × HasListened T.is_same R.plan self.old slot self.new news) }
+        ensures plans { plans_in R.plan self.new ≡ plans_in R.plan self.old }
+        ensures kinds { kind_in self.new ≡ kind_in self.old }
+        ensures shown { shown_in self.new ≡ shown_in self.old }
+        ensures cause { IfErr result HasRunOut }
+        ensures kept { OnErr result (self.new.effects ≡ self.old.effects) }
+        ensures untold { OnErr result (told.new.items ≡ told.old.items) }
+    {
+        let marks = &self.nodes.links.marks;
+        let Some(value) = known_value(&self.nodes.store, marks, key) else {
+            unreachable!();
+        };
+        hear_value(&mut self.effects.rows[slot], value, told)?;
+        self.effects.dirty.clean(slot);
+        Ok(())
+    }
+
+    // Reports why a slot's watched node has no value, unless that it has none was last reported.
+    fn hear_fault(
+        &mut self,
+        slot: usize,
+        key: Key,
+        fault: Fault,
+        told: &mut Vec<Told<T>>,
+    ) -> Result<(), StoreError>
+        requires true_of { IsTrueOf (plans_in R.plan self.old) (kind_in self.old) key fault }
+        requires live { kind_in self.old key ≢ NoNode }
+        requires watched { named_key (effect_at self.old.effects slot) ≡ Some key }
+        ensures heard { OnOk result ((news : List (Told T)) × (told.new.items ≡ told.old.items ++ news)
+            × HasListened T.is_same R.plan self.old slot self.new news) }
+        ensures plans { plans_in R.plan self.new ≡ plans_in R.plan self.old }
+        ensures kinds { kind_in self.new ≡ kind_in self.old }
+        ensures shown { shown_in self.new ≡ shown_in self.old }
+        ensures cause { IfErr result HasRunOut }
+        ensures kept { OnErr result (self.new.effects ≡ self.old.effects) }
+        ensures untold { OnErr result (told.new.items ≡ told.old.items) }
+    {
+        hear_fault(&mut self.effects.rows[slot], fault, told)?;
+        self.effects.dirty.flag(slot);
+        Ok(())
+    }
+
+    // Reports that a slot's watched node was removed, and removes the effect.
+    fn hear_end(&mut self, slot: usize, key: Key, told: &mut Vec<Told<T>>) -> Result<(), StoreError>
+        requires ended { kind_in self.old key ≡ NoNode }
+        requires watched { named_key (effect_at self.old.effects slot) ≡ Some key }
+        ensures heard { OnOk result ((news : List (Told T)) × (told.new.items ≡ told.old.items ++ news)
+            × HasListened T.is_same R.plan self.old slot self.new news) }
+        ensures plans { plans_in R.plan self.new ≡ plans_in R.plan self.old }
+        ensures kinds { kind_in self.new ≡ kind_in self.old }
+        ensures shown { shown_in self.new ≡ shown_in self.old }
+        ensures cause { IfErr result HasRunOut }
+        ensures kept { OnErr result (self.new.effects ≡ self.old.effects) }
+        ensures untold { OnErr result (told.new.items ≡ told.old.items) }
+    {
+        hear_end(&mut self.effects.rows[slot], told)?;
+        self.effects.dirty.flag(slot);
+        Ok(())
+    }
+
+    // Brings a slot's watched node up to date, and reports what it means, unless that was last reported.
+    fn hear(&mut self, slot: usize, told: &mut Vec<Told<T>>) -> Result<(), StoreError>
+        ensures heard { OnOk result ((news : List (Told T)) × (told.new.items ≡ told.old.items ++ news)
+            × HasListened T.is_same R.plan self.old slot self.new news) }
+        ensures plans { plans_in R.plan self.new ≡ plans_in R.plan self.old }
+        ensures kinds { kind_in self.new ≡ kind_in self.old }
+        ensures lasts { (k : Key) (v : T) → shown_in self.old k ≡ Some v → shown_in self.new k ≡ Some v }
+        ensures cause { IfErr result HasRunOut }
+        ensures kept { OnErr result (self.new.effects ≡ self.old.effects) }
+        ensures untold { OnErr result (told.new.items ≡ told.old.items) }
+    {
+        if self.is_heard(slot) {
+            return Ok(());
+        }
+        let Some(key) = self.watched_at(slot) else {
+            return Ok(());
+        };
+        match self.refresh(key) {
+            Ok(()) => self.hear_value(slot, key, told),
+            Err(fault) => self.hear_refusal(slot, key, fault, told),
+        }
+    }
+
+    // Reports why a slot's watched node couldn't be brought up to date. A lack of memory or numbers is
+    // passed on.
+    fn hear_refusal(
+        &mut self,
+        slot: usize,
+        key: Key,
+        fault: Fault,
+        told: &mut Vec<Told<T>>,
+    ) -> Result<(), StoreError>
+        requires blames { Blames (plans_in R.plan self.old) (kind_in self.old) key fault }
+        requires watched { named_key (effect_at self.old.effects slot) ≡ Some key }
+        ensures heard { OnOk result ((news : List (Told T)) × (told.new.items ≡ told.old.items ++ news)
+            × HasListened T.is_same R.plan self.old slot self.new news) }
+        ensures plans { plans_in R.plan self.new ≡ plans_in R.plan self.old }
+        ensures kinds { kind_in self.new ≡ kind_in self.old }
+        ensures shown { shown_in self.new ≡ shown_in self.old }
+        ensures cause { IfErr result HasRunOut }
+        ensures kept { OnErr result (self.new.effects ≡ self.old.effects) }
+        ensures untold { OnErr result (told.new.items ≡ told.old.items) }
+    {
+        if let Some(cause) = shortage(fault) {
+            return Err(cause);
+        }
+        if self.is_live(key) {
+            self.hear_fault(slot, key, fault, told)
+        } else {
+            self.hear_end(slot, key, told)
+        }
+    }
+
+    // Whether a slot has nothing to report.
+    fn is_heard(&self, slot: usize) -> bool
+        ensures { IsTrue result → HasListened T.is_same R.plan self.now slot self.now [] }
+    {
+        self.effects.dirty.is_clean(slot)
+    }
+
+    // Whether no slot of a block has anything to report.
+    fn is_quiet(&self, block: usize) -> bool
+        ensures { IsTrue result → (s : ℕ) → IsIn s block → HasListened T.is_same R.plan self.now s self.now [] }
+    {
+        !self.effects.dirty.is_flagged(block)
+    }
+
+    // Takes a block's flag away, if no slot of it has anything to report.
+    fn quiet(&mut self, block: usize)
+        requires { 64 * block ≤ length self.old.effects }
+        ensures { self.new ≡ self.old }
+    {
+        let many = self.slots();
+        let first = block * 64;
+        for slot in first..block_end(first, many) {
+            if !self.effects.is_settled(slot) {
+                return;
+            }
+        }
+        self.effects.dirty.clear(block);
+    }
+
+    // How many slots have room for an effect.
+    fn slots(&self) -> usize
+        ensures many { result ≡ length self.now.effects }
+        ensures low { result < 2 ^ 64 }
+    {
+        self.effects.rows.len()
+    }
+
+    // Reports what the watched nodes of a block's slots mean, if that has changed.
+    fn flush_block(&mut self, block: usize, told: &mut Vec<Told<T>>) -> Result<(), StoreError>
+        requires { 64 * block ≤ length self.old.effects }
+        ensures told { (before : List (Option (Effect T))) (earlier : List (Told T)) →
+            AllHear T.is_same (plans_in R.plan self.old) (kind_in self.old) (64 * block) before self.old.effects earlier →
+            (n : ℕ) × (news : List (Told T)) × (told.new.items ≡ told.old.items ++ news)
+            × AllHear T.is_same (plans_in R.plan self.old) (kind_in self.old) n before self.new.effects (earlier ++ news)
+            × (OnOk result ((n ≡ 64 * block + 64) ⊎ ((n ≡ length before) × (length before < 64 * block + 64)))) }
+        ensures cause { IfErr result HasRunOut }
+        ensures plans { plans_in R.plan self.new ≡ plans_in R.plan self.old }
+        ensures kinds { kind_in self.new ≡ kind_in self.old }
+        ensures lasts { (k : Key) (v : T) → shown_in self.old k ≡ Some v → shown_in self.new k ≡ Some v }
+    {
+        if self.is_quiet(block) {
+            return Ok(());
+        }
+        let many = self.slots();
+        let first = block * 64;
+        let end = block_end(first, many);
+        for slot in first..end {
+            self.hear(slot, told)?;
+        }
+        self.quiet(block);
+        Ok(())
+    }
+
+    /// Brings the watched nodes up to date, in the order of their slots, and pushes one entry for each that
+    /// means another value than was last reported, or that no longer means one. No node's meaning changes.
+    ///
+    /// If a node means nothing, since it needs itself or a removed node, or a rule returns no value, the
+    /// fault is reported once, and nothing more until the node means something. If it was removed itself,
+    /// this is reported, and its effect is removed.
+    ///
+    /// Takes the time of a `refresh` of each watched node that a change came to since its last report, or
+    /// that meant nothing then, and a step for each 64 slots. Allocates for what is reported.
+    ///
+    /// # Errors
+    ///
+    /// `OutOfMemory`, or after 2^64 steps `NumbersExhausted`. The entries that were pushed by then are
+    /// right, and a later flush reports the rest.
+    ///
+    /// ```rust
+    /// graph.set(postage, 0)?;
+    /// graph.flush(&mut told)?;
+    /// for change in told.iter() {
+    ///     println!(rt; "told {}: {:?}", change.tag, change.answer)?;
+    /// }
+    /// ```
+    pub fn flush(&mut self, told: &mut Vec<Told<T>>) -> Result<(), StoreError>
+        ensures told { (n : ℕ) × (news : List (Told T)) × (told.new.items ≡ told.old.items ++ news)
+            × AllHear T.is_same (plans_in R.plan self.old) (kind_in self.old) n self.old.effects self.new.effects news
+            × (OnOk result (n ≡ length self.old.effects)) }
+        ensures cause { IfErr result HasRunOut }
+        ensures plans { plans_in R.plan self.new ≡ plans_in R.plan self.old }
+        ensures kinds { kind_in self.new ≡ kind_in self.old }
+        ensures lasts { (k : Key) (v : T) → shown_in self.old k ≡ Some v → shown_in self.new k ≡ Some v }
+    {
+        let blocks = self.slots() / 64 + 1;
+        for block in 0..blocks {
+            self.flush_block(block, told)?;
+        }
+        Ok(())
     }
 }

@@ -2,7 +2,7 @@
 
 ghost use Rattle.std.specs.Prelude.{◌≡◌, [], ◌∷◌, ◌++◌, IfOk, IfErr, OnOk, OnErr};
 ghost use Rattle.reactive.specs.declared.key.Key.{Key};
-ghost use Rattle.reactive.specs.Ending.{IsAmong};
+ghost use Rattle.reactive.specs.Ending.{IsKeyAmong};
 ghost use Rattle.reactive.specs.Graphs.{HasKind, HasPlan, IsLast, kind_in, plans_in};
 ghost use Rattle.reactive.specs.Graphs.Kind.{NoNode, Source, Memo};
 ghost use Rattle.reactive.specs.declared.fault.Fault.TheVariants as fault;
@@ -14,8 +14,8 @@ use crate::key::Key;
 use crate::node::Node;
 use crate::reactive::Reactive;
 use crate::rule::Rule;
-use crate::values::Value;
 use generational_core::{Location, Storage, StoreError};
+use reactive_values::Value;
 use std::alloc::Global;
 use std::marker::Model;
 
@@ -75,6 +75,7 @@ impl Scope {
         ensures new { IfOk result (λ key. kind_in graph.old key ≡ NoNode) }
         ensures listed { IfOk result (λ key. self.new ≡ self.old ++ key ∷ []) }
         ensures refused { OnErr result (graph.new ≡ graph.old) }
+        ensures effects { graph.new.effects ≡ graph.old.effects }
         ensures unlisted { OnErr result (self.new ≡ self.old) }
         ensures cause { IfErr result (λ cause. cause ≡ OutOfMemory) }
     {
@@ -110,6 +111,7 @@ impl Scope {
         ensures new { IfOk result (λ key. kind_in graph.old key ≡ NoNode) }
         ensures listed { IfOk result (λ key. self.new ≡ self.old ++ key ∷ []) }
         ensures refused { OnErr result (graph.new ≡ graph.old) }
+        ensures effects { graph.new.effects ≡ graph.old.effects }
         ensures unlisted { OnErr result (self.new ≡ self.old) }
         ensures cause { IfErr result (λ cause. cause ≡ OutOfMemory) }
     {
@@ -142,12 +144,13 @@ impl Scope {
         self,
         graph: &mut Reactive<T, R, S>,
     ) -> Result<(), (Scope, Fault)>
-        ensures ended { OnOk result ((k : Key) → IsAmong k self → plans_in R.plan graph.new k ≡ Stop) }
-        ensures gone { OnOk result ((k : Key) → IsAmong k self → kind_in graph.new k ≡ NoNode) }
-        ensures others { (k : Key) → (IsAmong k self → ⊥) →
+        ensures ended { OnOk result ((k : Key) → IsKeyAmong k self → plans_in R.plan graph.new k ≡ Stop) }
+        ensures gone { OnOk result ((k : Key) → IsKeyAmong k self → kind_in graph.new k ≡ NoNode) }
+        ensures others { (k : Key) → (IsKeyAmong k self → ⊥) →
             plans_in R.plan graph.new k ≡ plans_in R.plan graph.old k }
-        ensures kept { (k : Key) → (IsAmong k self → ⊥) → kind_in graph.new k ≡ kind_in graph.old k }
+        ensures kept { (k : Key) → (IsKeyAmong k self → ⊥) → kind_in graph.new k ≡ kind_in graph.old k }
         ensures refused { OnErr result (graph.new ≡ graph.old) }
+        ensures effects { graph.new.effects ≡ graph.old.effects }
         ensures back { IfErr result (λ refusal. refusal.0 ≡ self) }
         ensures cause { IfErr result (λ refusal. (refusal.1 ≡ fault.Store NumbersExhausted) × IsLast graph.old) }
     {

@@ -1,7 +1,10 @@
 -- What is known of nodes is what they mean, and what looks at them find.
 pub mod Meanings
 unfoldable pub use Meanings.*
+use Rattle.reactive.specs.declared.fault.Fault.TheVariants as fault
 use Rattle.reactive.specs.declared.look.Found.TheVariants as found
+use Rattle.reactive.specs.Hearing.{WasTold}
+use Rattle.std.proofs.lemmas.List.Elements.{Contains-append_left, Contains-append_right, Contains-append_cases}
 
 -- ==== what is known of a table's nodes is what they mean
 
@@ -46,16 +49,16 @@ none_knows known k none is = none-some _ (sym none ∙ knows_is known k is)
 module _ {T R : Type 0} where
   -- ---- what is found to be known is known, and the other way round
 
-  pub known_node : (sure : Bool) (n : Node T R) (v : T) → known_by sure (Some n) ≡ Some v → IsKnown sure n v
+  pub known_node : (sure : Bool) (n : Node T R) (v : T) → known_by sure (Some n) ≡ Some v → IsNodeKnown sure n v
   known_node true n v is = grind arith
   known_node false n v is = grind arith
 
   pub known_shows : (sure : Bool) (o : Option (Node T R)) (v : T) → known_by sure o ≡ Some v
-      → (n : Node T R) × (o ≡ Some n) × IsKnown sure n v
+      → (n : Node T R) × (o ≡ Some n) × IsNodeKnown sure n v
   known_shows sure None v is = cc
   known_shows sure (Some n) v is = (n, refl, known_node sure n v is)
 
-  known_if : (sure : Bool) (n : Node T R) (v : T) → IsKnown sure n v → known_by sure (Some n) ≡ Some v
+  known_if : (sure : Bool) (n : Node T R) (v : T) → IsNodeKnown sure n v → known_by sure (Some n) ≡ Some v
   known_if true n v is = grind arith
   known_if false n v is = grind arith
 
@@ -89,8 +92,8 @@ module _ {T R : Type 0} {plan : R → Plan T} {G : Graph T} {now : ℕ} {b : Boo
   all_mean (a ∷ rest) (h, all) = (known_means a.key a.value h, all_mean rest all)
 
 -- if results are valid one by one in another table too, they are all valid there
-pub stand_all : {T R : Type 0} (G : Graph T) (now since : ℕ) (old new : Table T R)
-    → ((a : Asked T) → (since ≡ now → Means G a.key a.value) → Stands old since a → Stands new since a)
+pub stand_all : {T R : Type 0} (G : Graph T) (now since : ℕ) (old new : NodeTable T R)
+    → ((a : Asked T) → (since ≡ now → Means G a.key a.value) → IsStillValid old since a → IsStillValid new since a)
     → (answers : List (Asked T)) → (since ≡ now → AllMean G answers) → AllStand old since answers
     → AllStand new since answers
 stand_all G now since old new each [] mean all = tt
@@ -99,80 +102,137 @@ stand_all G now since old new each (a ∷ rest) mean (h, all) =
 
 -- ==== effects hear one after another
 
-module _ {T : Type 0} (same : T → T → Bool) (G : Graph T) where
-  -- one more effect hears what its node means
-  pub hear_more : (n : ℕ) (old now : List (Effect T)) (told one : List (Told T)) (e f : Effect T)
-      (a : Result T Fault) → AllHear same G n old now told → slice_get now n ≡ Some e → Says G e.key a
-      → Hears same e a f one → AllHear same G (suc n) old (set now n f) (told ++ one)
-  hear_more zero (o ∷ old) (m ∷ now) told one e f a (same_now, none) is says hears =
+module _ {T : Type 0} (same : T → T → Bool) (G : Graph T) (kind : Key → Kind) where
+  -- one more slot's effect gets what its node means
+  pub hear_more : (n : ℕ) (old now : List (Option (Effect T))) (told one : List (Told T)) (e f : Option (Effect T))
+      → AllHear same G kind n old now told → slice_get now n ≡ Some e
+      → Listens same G kind e f one → AllHear same G kind (suc n) old (set now n f) (told ++ one)
+  hear_more zero (o ∷ old) (m ∷ now) told one e f (same_now, none) is hears =
       let here : e ≡ o = cc in
       let rest : now ≡ old = cc in
-      rw (← here) (a, says, (one, [], rw none (sym (append-nil one)), hears, (rest, refl)))
-  hear_more zero old now told one e f a (same_now, none) is says hears = cc
-  hear_more (suc n) (o ∷ old) (m ∷ now) told one e f a (b, said, (first, more, told_is, heard, rest)) is says hears = (
-    b,
-    said,
-    (
-      first,
-      more ++ one,
-      rw told_is (append_assoc first more one),
-      heard,
-      hear_more n old now more one e f a rest is says hears,
-    ),
+      rw (← here) (one, [], rw none (sym (append-nil one)), hears, (rest, refl))
+  hear_more zero old now told one e f (same_now, none) is hears = cc
+  hear_more (suc n) (o ∷ old) (m ∷ now) told one e f (first, more, told_is, heard, rest) is hears = (
+    first,
+    more ++ one,
+    rw told_is (append_assoc first more one),
+    heard,
+    hear_more n old now more one e f rest is hears,
   )
-  hear_more (suc n) old now told one e f a h is says hears = absurd h
+  hear_more (suc n) old now told one e f h is hears = absurd h
 
-  -- there are as many effects as before, and at least those that have heard
-  all_length : (n : ℕ) (old now : List (Effect T)) (told : List (Told T)) → AllHear same G n old now told
+  -- there are as many slots as before, and at least those that are up to date
+  pub all_length : (n : ℕ) (old now : List (Option (Effect T))) (told : List (Told T)) → AllHear same G kind n old now told
       → (length now ≡ length old) × (n ≤ length old)
   all_length zero old now told h = (ap length h.0, omega arith)
-  all_length (suc n) (o ∷ old) (m ∷ now) told h = grind (arith, all_length n old now h.2.1 h.2.4)
+  all_length (suc n) (o ∷ old) (m ∷ now) told h = grind (arith, all_length n old now h.1 h.4)
   all_length (suc n) old now told h = absurd h
 
-  -- the effects that are left are these
-  pub all_kept : (n k : ℕ) (old now : List (Effect T)) (told : List (Told T)) → n ≡ length old
-      → AllHear same G k old now told
-      → AllHear same G k old (take n (now ++ drop (length now) old)) told
-  all_kept n k old now told is h = grind (arith, all_length, take-append_seam)
+-- ---- what that says
 
-  -- all of them were reported at the end
-  pub all_heard : (k : ℕ) (old now : List (Effect T)) (told : List (Told T)) → AllHear same G k old now told
-      → length now ≤ k → k ≡ length old
-  all_heard k old now told h past = let long = all_length k old now told h in omega arith
+module _ {T : Type 0} (same : T → T → Bool) (G : Graph T) (kind : Key → Kind) where
+  is_mute : (k : Key) (f : Fault) → IsTrueOf G kind k f → IsMute G k
+  is_mute k (fault.Gone j) h = h.0
+  is_mute k (fault.Cycle j) h = h.0
+  is_mute k (fault.NoValue j) h = h.0
+  is_mute k (fault.NoSource j) h = absurd h
+  is_mute k (fault.Store e) h = absurd h
 
-  -- an effect without a report is reported
-  told_first : (k : Key) (a : Result T Fault) (f : Effect T) (one : List (Told T))
-      → Hears same (record { key = k; told = None }) a f one
-      → (f ≡ record { key = k; told = Some a }) × (one ≡ record { key = k; answer = a } ∷ [])
-  told_first k a f one h = grind arith
+  -- the last report of an effect that is up to date is right
+  right_answer : (k : Key) (a : Result T Fault) → Says G kind k a → IsRight G k (Some a)
+  right_answer k (Ok v) says = says
+  right_answer k (Err f) says = is_mute k f says
 
-  first_heard : (k : Key) (new : List (Effect T)) (told : List (Told T))
-      → AllHear same G (suc zero) (record { key = k; told = None } ∷ []) new told
-      → (a : Result T Fault) × Says G k a × (told ≡ record { key = k; answer = a } ∷ [])
-  first_heard k new told h = grind (arith, told_first)
+  right_told : (k : Key) (told : Option (Result T Fault)) (a : Result T Fault) → WasTold told a → Says G kind k a
+      → IsRight G k told
+  right_told k told (Ok v) was says = rw was says
+  right_told k told (Err f) was says = rw was.1 (is_mute k f says)
 
-  pub first_told : (n : ℕ) (k : Key) (old new : List (Effect T)) (told : List (Told T))
-      → old ≡ record { key = k; told = None } ∷ [] → n ≡ length old → AllHear same G n old new told
-      → (a : Result T Fault) × Says G k a × (told ≡ record { key = k; answer = a } ∷ [])
-  first_told n k old new told is len h = first_heard k new told (rw (len, is) at h)
+  heard_right : (e f : Effect T) (a : Result T Fault) (one : List (Told T)) → Says G kind e.key a → Hears same e a f one
+      → IsRight G f.key f.told
+  heard_right e f a [] says (stays, was) = rw stays (right_told e.key e.told a was says)
+  heard_right e f a (t ∷ []) says (new, is, told) = rw is (right_answer e.key a says)
+  heard_right e f a (t ∷ u ∷ rest) says h = absurd h
 
-  -- the last report of an effect is what its node means
-  heard_says : (e f : Effect T) (a : Result T Fault) (one : List (Told T)) → Says G e.key a
-      → Hears same e a f one → (b : Result T Fault) × Says G f.key b × (f.told ≡ Some b)
-  heard_says e f (Ok v) [] says (stays, told) = (Ok v, rw stays says, rw stays told)
-  heard_says e f (Err g) [] says (stays, (was, told)) = (Err was, rw stays says, rw stays told)
-  heard_says e f a (t ∷ []) says (new, is, told) = (a, rw is says, rw is refl)
-  heard_says e f a (t ∷ u ∷ rest) says h = absurd h
+  listens_right : (o p : Option (Effect T)) (f : Effect T) (one : List (Told T)) → Listens same G kind o p one → p ≡ Some f
+      → IsRight G f.key f.told
+  listens_right None p f one h is = absurd (none-some f (sym h.0 ∙ is))
+  listens_right (Some e) (Some p) f one (live, (a, says, hears)) is = rw (same_Some p f is) at (heard_right e p a one says hears)
+  listens_right (Some e) None f one h is = absurd (none-some f is)
 
-  pub all_say : (n : ℕ) (old new : List (Effect T)) (told : List (Told T)) (i : ℕ) (f : Effect T)
-      → n ≡ length old → AllHear same G n old new told → slice_get new i ≡ Some f
-      → (a : Result T Fault) × Says G f.key a × (f.told ≡ Some a)
-  all_say zero old new told i f len (stays, _) there = let none = nil_from_length old (sym len) in cc
-  all_say (suc n) (o ∷ old) (m ∷ new) told zero f len h there =
-      rw (same_Some m f there) at (heard_says o m h.0 h.2.0 h.1 h.2.3)
-  all_say (suc n) (o ∷ old) (m ∷ new) told (suc i) f len h there =
-      all_say n old new h.2.1 i f (omega (arith, len)) h.2.4 there
-  all_say (suc n) old new told i f len h there = absurd h
+  pub all_right : (n s : ℕ) (f : Effect T) (old new : List (Option (Effect T))) (told : List (Told T)) → n ≡ length old
+      → AllHear same G kind n old new told → effect_at new s ≡ Some f → IsRight G f.key f.told
+  all_right zero s f old new told len (stays, none) at =
+      let empty = nil_from_length old (sym len) in absurd (none-some f (ap (λ es. effect_at es s) (sym (stays ∙ empty)) ∙ at))
+  all_right (suc n) zero f (o ∷ old) (p ∷ new) told len (one, rest, is, listens, h) at = listens_right o p f one listens at
+  all_right (suc n) (suc s) f (o ∷ old) (p ∷ new) told len (one, rest, is, listens, h) at =
+      all_right n s f old new rest (omega (arith, len)) h at
+  all_right (suc n) s f old new told len h at = absurd h
+
+  -- an effect without a report gets one
+  told_first : (e f : Effect T) (a : Result T Fault) (one : List (Told T)) → e.told ≡ None → Hears same e a f one
+      → Contains one (telling e a)
+  told_first e f (Ok v) [] none (stays, was) = absurd (none-some (Ok v) (sym none ∙ was))
+  told_first e f (Err g) [] none (stays, was) = absurd (none-some (Err was.0) (sym none ∙ was.1))
+  told_first e f a (t ∷ []) none (new, is, told) = (0, omega arith, told)
+  told_first e f a (t ∷ u ∷ rest) none h = absurd h
+
+  listens_first : (o p : Option (Effect T)) (e : Effect T) (one : List (Told T)) → Listens same G kind o p one → o ≡ Some e
+      → e.told ≡ None → kind e.key ≢ NoNode → (a : Result T Fault) × Says G kind e.key a × Contains one (telling e a)
+  listens_first None p e one h is none live = absurd (none-some e is)
+  listens_first (Some d) (Some p) e one (lives, (a, says, hears)) is none live =
+      let it = same_Some d e is in (
+        a,
+        subst (λ x. Says G kind x.key a) it says,
+        subst (λ x. Contains one (telling x a)) it (told_first d p a one (ap (λ x. x.told) it ∙ none) hears),
+      )
+  listens_first (Some d) None e one h is none live = absurd (live (ap (λ x. kind x.key) (sym (same_Some d e is)) ∙ h.0))
+
+  pub first_told : (n s : ℕ) (e : Effect T) (old new : List (Option (Effect T))) (told : List (Told T)) → n ≡ length old
+      → AllHear same G kind n old new told → effect_at old s ≡ Some e → e.told ≡ None → kind e.key ≢ NoNode
+      → (a : Result T Fault) × Says G kind e.key a × Contains told (telling e a)
+  first_told zero s e old new told len h at none live =
+      let empty = nil_from_length old (sym len) in absurd (none-some e (ap (λ es. effect_at es s) (sym empty) ∙ at))
+  first_told (suc n) zero e (o ∷ old) (p ∷ new) told len (one, rest, is, listens, h) at none live =
+      let first = listens_first o p e one listens at none live in
+      (first.0, first.1, rw is (Contains-append_left one rest (telling e first.0) first.2))
+  first_told (suc n) (suc s) e (o ∷ old) (p ∷ new) told len (one, rest, is, listens, h) at none live =
+      let later = first_told n s e old new rest (omega (arith, len)) h at none live in
+      (later.0, later.1, rw is (Contains-append_right one rest (telling e later.0) later.2))
+  first_told (suc n) s e old new told len h at none live = absurd h
+
+  -- a report is of an effect
+  in_none : (t : Told T) → Contains [] t → ⊥
+  in_none t (k, lt, is) = absurd (omega (arith, lt))
+
+  in_one : (t u : Told T) → Contains (t ∷ []) u → t ≡ u
+  in_one t u (zero, lt, is) = is
+  in_one t u (suc k, lt, is) = absurd (omega (arith, lt))
+
+  hears_only : (e f : Effect T) (a : Result T Fault) (one : List (Told T)) (t : Told T) → Hears same e a f one → Contains one t
+      → t ≡ telling e t.answer
+  hears_only e f a [] t h there = absurd (in_none t there)
+  hears_only e f a (u ∷ []) t (new, is, told) there =
+      let it = in_one u t there in sym it ∙ (told ∙ ap (telling e) (sym (ap (λ x. x.answer) told) ∙ ap (λ x. x.answer) it))
+  hears_only e f a (u ∷ v ∷ rest) t h there = absurd h
+
+  listens_only : (o p : Option (Effect T)) (one : List (Told T)) (t : Told T) → Listens same G kind o p one → Contains one t
+      → (e : Effect T) × (o ≡ Some e) × (t ≡ telling e t.answer)
+  listens_only None p one t h there = absurd (in_none t (subst (λ xs. Contains xs t) h.1 there))
+  listens_only (Some e) (Some p) one t (live, (a, says, hears)) there = (e, refl, hears_only e p a one t hears there)
+  listens_only (Some e) None one t h there =
+      let it = in_one (telling e (Err (fault.Gone e.key))) t (subst (λ xs. Contains xs t) h.1 there) in
+      (e, refl, sym it ∙ ap (telling e) (ap (λ x. x.answer) it))
+
+  pub only_told : (n : ℕ) (t : Told T) (old new : List (Option (Effect T))) (told : List (Told T))
+      → AllHear same G kind n old new told → Contains told t
+      → (s : ℕ) × (e : Effect T) × (effect_at old s ≡ Some e) × (t ≡ telling e t.answer)
+  only_told zero t old new told (stays, none) there = absurd (in_none t (subst (λ xs. Contains xs t) none there))
+  only_told (suc n) t (o ∷ old) (p ∷ new) told (one, rest, is, listens, h) there = ⊎_elim
+      (λ first. let it = listens_only o p one t listens first in (0, it.0, it.1, it.2))
+      (λ later. let it = only_told n t old new rest h later in (suc it.0, it.1, it.2, it.3))
+      (Contains-append_cases one rest t (subst (λ xs. Contains xs t) is there))
+  only_told (suc n) t old new told h there = absurd h
 
 -- ==== the nodes of a store are found by their keys, and change as the machine says
 
@@ -197,13 +257,13 @@ module _ {T R : Type 0} where
       (b : GenerationalBox (Node T R)) (k : Key) (is : (pointer_of b).id ≡ k.id)
       (m : Meets S (Make None n l) (Made (pointer_of b)) Q) where
     pub made_none : nodes_in S k ≡ None
-    made_none = grind (arith, made_apart None n l (Ok b) s m (pointer_in k))
+    made_none = grind (arith, made_apart None n l (Ok b) s m (key_pointer k))
 
     pub made_puts : IsPut (nodes_in S) k n (nodes_in Q)
     made_puts = record {
-      here = same_id_sees Q (pointer_in k) (pointer_of b) (sym is) ∙ made None n l (Ok b) m;
-      others = λ j ne. others_left _ _ m (pointer_of b) (pointer_in j) (made_new _ _ _ _ m).0
-          (same_value _ _ _ _ s m (pointer_in j) tt) (λ e. ne (same_key j k (sym e ∙ is)));
+      here = same_id_sees Q (key_pointer k) (pointer_of b) (sym is) ∙ made None n l (Ok b) m;
+      others = λ j ne. others_left _ _ m (pointer_of b) (key_pointer j) (made_new _ _ _ _ m).0
+          (same_value _ _ _ _ s m (key_pointer j) tt) (λ e. ne (same_key j k (sym e ∙ is)));
     }
 
   -- the index where a key's box was found
@@ -213,7 +273,7 @@ module _ {T R : Type 0} where
     is = found_id S k.id b seen_found
 
     pub stuck_none : can ≡ false → nodes_in S k ≡ None
-    stuck_none stuck = same_id_sees S (pointer_in k) b (sym is) ∙ stuck_unseen b s simple writes stuck
+    stuck_none stuck = same_id_sees S (key_pointer k) b (sym is) ∙ stuck_unseen b s simple writes stuck
 
     module _ (free : can ≡ true) where
       own : b.id.store ≡ S.number
@@ -222,50 +282,50 @@ module _ {T R : Type 0} where
       -- a set replaces a node
       pub set_had : {Q : State (Node T R)} (new old : Node T R) → Meets S (SetValue b new) (Old old) Q
           → nodes_in S k ≡ Some old
-      set_had new old m = same_id_sees S (pointer_in k) b (sym is) ∙ (sets b new old m).0
+      set_had new old m = same_id_sees S (key_pointer k) b (sym is) ∙ (sets b new old m).0
 
       pub set_puts : {Q : State (Node T R)} (new old : Node T R) → Meets S (SetValue b new) (Old old) Q
           → IsPut (nodes_in S) k new (nodes_in Q)
       set_puts new old m = record {
-        here = (sets b new old m).2 (pointer_in k) (same_id_reach S (pointer_in k) b (sym is));
+        here = (sets b new old m).2 (key_pointer k) (same_id_reach S (key_pointer k) b (sym is));
         others = λ j ne. let to = seen_reached S b old (sets b new old m).0 in
-            others_left _ _ m b (pointer_in j) own (λ apart. same_value _ _ _ _ s m (pointer_in j)
-            (λ e. apart (reach_apart S simple.plain b (pointer_in j) to.0 to.1 (sym e))) tt)
+            others_left _ _ m b (key_pointer j) own (λ apart. same_value _ _ _ _ s m (key_pointer j)
+            (λ e. apart (reach_apart S simple.plain b (key_pointer j) to.0 to.1 (sym e))) tt)
             (λ e. ne (same_key j k (sym e ∙ is)));
       }
 
       -- there is a node
       pub written_lives : nodes_in S k ≢ None
       written_lives none = true≢false (sym (free_seen b s simple writes free)
-          ∙ ap is_some (sym (same_id_sees S (pointer_in k) b (sym is)) ∙ none))
+          ∙ ap is_some (sym (same_id_sees S (key_pointer k) b (sym is)) ∙ none))
 
       -- a removal leaves no node
       pub end_none : {Q : State (Node T R)} → Meets S (End b) Done Q → nodes_in Q k ≡ None
-      end_none {Q} m = same_id_sees Q (pointer_in k) b (sym is) ∙ unseen Q b (ends b {U = Unit {0}} (Ok tt) m)
+      end_none {Q} m = same_id_sees Q (key_pointer k) b (sym is) ∙ unseen Q b (ends b {U = Unit {0}} (Ok tt) m)
 
       pub end_others : {Q : State (Node T R)} → Meets S (End b) Done Q → (j : Key) → j ≢ k
           → nodes_in Q j ≡ nodes_in S j
-      end_others m j ne = others_left _ _ m b (pointer_in j) own
-          (λ apart. same_value _ _ _ _ s m (pointer_in j) apart tt) (λ e. ne (same_key j k (sym e ∙ is)))
+      end_others m j ne = others_left _ _ m b (key_pointer j) own
+          (λ apart. same_value _ _ _ _ s m (key_pointer j) apart tt) (λ e. ne (same_key j k (sym e ∙ is)))
 
 -- ==== what holds of a table when some of its nodes were removed
 
-among_last : (xs : List Key) (x k : Key) → IsAmong k (xs ++ x ∷ []) → IsAmong k xs ⊎ (x ≡ k)
+among_last : (xs : List Key) (x k : Key) → IsKeyAmong k (xs ++ x ∷ []) → IsKeyAmong k xs ⊎ (x ≡ k)
 among_last [] x k e = grind arith
 among_last (y ∷ xs) x k e = grind (arith, among_last xs x k)
 
-pub among_first : (xs : List Key) (x k : Key) → IsAmong k xs ⊎ (x ≡ k) → IsAmong k (xs ++ x ∷ [])
+pub among_first : (xs : List Key) (x k : Key) → IsKeyAmong k xs ⊎ (x ≡ k) → IsKeyAmong k (xs ++ x ∷ [])
 among_first [] x k e = grind arith
 among_first (y ∷ xs) x k e = grind (arith, among_first xs x k)
 
 module _ {T R : Type 0} where
-  lost_last : (old mid new : Table T R) (xs : List Key) (x : Key) → HasLost old xs mid
-      → new x ≡ None → ((j : Key) → j ≢ x → new j ≡ mid j) → HasLost old (xs ++ x ∷ []) new
+  lost_last : (old mid new : NodeTable T R) (xs : List Key) (x : Key) → HasLostKeys old xs mid
+      → new x ≡ None → ((j : Key) → j ≢ x → new j ≡ mid j) → HasLostKeys old (xs ++ x ∷ []) new
   lost_last old mid new xs x lost none same = grind (arith, key_cases, among_last, among_first)
 
-  pub lost_more : (old mid new : Table T R) (keys : List Key) (i : ℕ) (d : Key) → i < length keys
-      → HasLost old (take i keys) mid → new (get_or keys i d) ≡ None
-      → ((j : Key) → j ≢ get_or keys i d → new j ≡ mid j) → HasLost old (take (i + 1) keys) new
+  pub lost_more : (old mid new : NodeTable T R) (keys : List Key) (i : ℕ) (d : Key) → i < length keys
+      → HasLostKeys old (take i keys) mid → new (get_or keys i d) ≡ None
+      → ((j : Key) → j ≢ get_or keys i d → new j ≡ mid j) → HasLostKeys old (take (i + 1) keys) new
   lost_more old mid new keys i d lt lost none same =
       rw (take_more keys i d lt) (lost_last old mid new (take i keys) (get_or keys i d) lost none same)
 
@@ -289,7 +349,7 @@ module _ {T R : Type 0} (b : Book T R) where
       record { answer = a.0; there = a.1; of = rw asked at a.2; before = known }
 
   stand_at : (since : ℕ) (answers : List (Asked T)) (place : ℕ) (a : Asked T) → AllStand b.nodes since answers
-      → slice_get answers place ≡ Some a → Stands b.nodes since a
+      → slice_get answers place ≡ Some a → IsStillValid b.nodes since a
   stand_at since [] place a all is = absurd (none-some a is)
   stand_at since (b ∷ rest) zero a (h, all) is = rw (same_Some b a is) at h
   stand_at since (b ∷ rest) (suc place) a (h, all) is = stand_at since rest place a all is
@@ -357,13 +417,13 @@ module _ {T R : Type 0} {plan : R → Plan T} {G : Graph T} {now : ℕ} {b : Boo
           (answers, all_mean s answers known, rw (plan_is, ← to.2) to.1)
 
       pub rerun_leads : (v : T) (reads : List Key) → list_map (λ a. a.key) answers ≡ reads
-          → Ran (plan rule) answers None (Some v) → LeadsTo G now b k n v reads
+          → Ran (plan rule) answers None (Some v) → PlanLeadsTo G now b k n v reads
       rerun_leads v reads asked ran = grind (arith, ran_to, plan_is)
 
       -- a value that a run came to was found
       pub found_by : (v : T) (asked kept : List Key) → list_map (λ a. a.key) answers ≡ asked → kept ≡ vec_items n.reads
           → Ran (plan rule) answers None (Some v) → (is_kept : Bool) → (is_kept ≡ true → is_some n.value ≡ true)
-          → (f : Found T) → IsFoundBy v asked kept is_kept f → Finds G now b k f
+          → (f : Found T) → IsFoundBy v asked kept is_kept f → RunFinds G now b k f
       found_by v asked kept is its ran is_kept has_value (found.Again w) (same, again, kept_is) =
           rw same (
             n,
@@ -389,7 +449,7 @@ module _ {T R : Type 0} {plan : R → Plan T} {G : Graph T} {now : ℕ} {b : Boo
 
     module _ (v : T) (value : n.value ≡ Some v) (w : IsWalk G now b.nodes k n v) where
       pub kept_leads : (rule : R) → n.rule ≡ Some rule → AreKnown b w.answers
-          → LeadsTo G now b k n v (vec_items n.reads)
+          → PlanLeadsTo G now b k n v (vec_items n.reads)
       kept_leads rule has known = let asked = w.asked in let leads = w.leads in search
 
       -- the node of a cached read is needed, if the results before it are what their nodes mean

@@ -48,20 +48,20 @@ IsCyclic G C = (j : Key) → C j → (k : Key) × C k × Needs G j k
 
 module _ {T : Type 0} (G : Graph T) where
   -- a plan yields at most one value, so a node means at most one
-  pub same : (p : Plan T) (v : T) → Gives G p v → (w : T) → Gives G p w → v ≡ w
+  pub same : (p : Plan T) (v : T) → Yields G p v → (w : T) → Yields G p w → v ≡ w
   same _ _ (gives v) w (gives _) = refl
   same _ _ (goes_on k next a v d e) w (goes_on _ _ b _ f g) =
       same (next b) v (rw (same (G k) a d b f) at e) w g
 
   -- what is left of a plan by the values of sources it yields
   from_source : (k : Key) (next : T → Plan T) (v : T) (p : Plan T) → G k ≡ p
-      → ((a : T) → value_by G (next a) ≡ Some v → Gives G (next a) v)
-      → value_from p (λ a. value_by G (next a)) ≡ Some v → Gives G (Ask k next) v
+      → ((a : T) → plan_value G (next a) ≡ Some v → Yields G (next a) v)
+      → value_from p (λ a. plan_value G (next a)) ≡ Some v → Yields G (Ask k next) v
   from_source k next v (Give a) at on is = goes_on k next a v (rw at (gives a)) (on a is)
   from_source k next v Stop at on is = absurd (none-some v is)
   from_source k next v (Ask j more) at on is = absurd (none-some v is)
 
-  pub valued : (p : Plan T) (v : T) → value_by G p ≡ Some v → Gives G p v
+  pub valued : (p : Plan T) (v : T) → plan_value G p ≡ Some v → Yields G p v
   valued (Give a) v is = rw (same_Some a v is) (gives v)
   valued Stop v is = absurd (none-some v is)
   valued (Ask k next) v is = from_source k next v (G k) refl (λ a. valued (next a) v) is
@@ -74,27 +74,27 @@ module _ {T : Type 0} (G : Graph T) where
 
   -- a plan yields what its rest yields, after results that are meant
   pub walked : (p : Plan T) (answers : List (Asked T)) (q : Plan T) (v : T)
-      → Follows p answers q → AllMean G answers → Gives G q v → Gives G p v
+      → Follows p answers q → AllMean G answers → Yields G q v → Yields G p v
   walked p [] q v e all h = rw e h
   walked p (a ∷ rest) q v f (m, all) h =
       let n = first_asked p a rest q f in
       rw n.1 (goes_on a.key n.0 a.value v m (walked (n.0 a.value) rest q v n.2 all h))
 
   -- what is in a derivation of a plan that reads
-  inside : (k : Key) (next : T → Plan T) (v : T) → Gives G (Ask k next) v
-      → (a : T) × Means G k a × Gives G (next a) v
+  inside : (k : Key) (next : T → Plan T) (v : T) → Yields G (Ask k next) v
+      → (a : T) × Means G k a × Yields G (next a) v
   inside _ _ _ (goes_on k next a v d e) = (a, d, e)
 
   -- and the other way round
   left : (p : Plan T) (answers : List (Asked T)) (q : Plan T) (v : T)
-      → Follows p answers q → AllMean G answers → Gives G p v → Gives G q v
+      → Follows p answers q → AllMean G answers → Yields G p v → Yields G q v
   left p [] q v e all h = rw e at h
   left p (a ∷ rest) q v f (m, all) h =
       let n = first_asked p a rest q f in
       let got = inside a.key n.0 v (rw n.1 at h) in
       left (n.0 a.value) rest q v n.2 all (rw (same (G a.key) got.0 got.1 a.value m) at got.2)
 
-  pub stopped : (v : T) → Gives G Stop v → ⊥
+  pub stopped : (v : T) → Yields G Stop v → ⊥
   stopped v h = grind arith
 
   -- a node whose rule failed means nothing; nor does one that needs a node which means nothing
@@ -107,7 +107,7 @@ module _ {T : Type 0} (G : Graph T) where
 
   -- a node on a cycle means nothing
   module _ (C : Key → Type 0) (cyclic : IsCyclic G C) where
-    around : (p : Plan T) (v : T) → Gives G p v → (answers : List (Asked T)) (k : Key) (next : T → Plan T)
+    around : (p : Plan T) (v : T) → Yields G p v → (answers : List (Asked T)) (k : Key) (next : T → Plan T)
         → C k → AllMean G answers → Follows p answers (Ask k next) → ⊥
     around _ _ (gives v) [] k next c all f = cc
     around _ _ (gives v) (a ∷ rest) k next c all f = f
@@ -123,10 +123,10 @@ module _ {T : Type 0} (G : Graph T) where
 
 -- if a plan replaces one that failed, what meant something still means it
 module _ {T : Type 0} (G H : Graph T) (more : (k : Key) → (G k ≡ Stop) ⊎ (G k ≡ H k)) where
-  more_at : (k : Key) (v : T) → Means G k v → Gives H (G k) v → Means H k v
+  more_at : (k : Key) (v : T) → Means G k v → Yields H (G k) v → Means H k v
   more_at k v d h = ⊎_elim (λ stops. absurd (stopped G v (rw stops at d))) (λ e. rw e at h) (more k)
 
-  grown : (p : Plan T) (v : T) → Gives G p v → Gives H p v
+  grown : (p : Plan T) (v : T) → Yields G p v → Yields H p v
   grown _ _ (gives v) = gives v
   grown _ _ (goes_on k next a v d e) = goes_on k next a v (more_at k a d (grown (G k) a d)) (grown (next a) v e)
 

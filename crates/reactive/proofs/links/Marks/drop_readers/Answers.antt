@@ -1,4 +1,4 @@
-use Rattle.reactive.proofs.Linking.{begin_drop, drop_more, dropped_all, dropped_none, dropped_room}
+use Rattle.reactive.proofs.Linking.{begin_drop, drop_more, dropped_all, dropped_room}
 use Rattle.reactive.proofs.{ap, arith, refl, rules, slice_get, Some, sym, ◌∙◌, ◌≡◌}
 use Rattle.std.proofs.lemmas.Option.{slice_get_read}
 use Rattle.reactive.specs.Links.{edges_at, edges_by}

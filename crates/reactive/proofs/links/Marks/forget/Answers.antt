@@ -1,4 +1,4 @@
-use Rattle.reactive.proofs.Linking.{any_default, begin_waits, one_dropped, taken, Waits, waits_done}
+use Rattle.reactive.proofs.Linking.{any_default, begin_waits, one_dropped, taken, Waits, doubted_more, trust_begin, trust_done, trust_more, Trusts, waits_done}
 use Rattle.reactive.proofs.{arith, get_or, rules, subst, sym, [], ◌∙◌, ◌≡◌}
 use Rattle.reactive.specs.Links.{unknown}
 use Rattle.reactive.specs.Visiting.{LeadThrough}
@@ -13,7 +13,10 @@ loop-self-init c =
         d.1,
         begin_waits c.args.web.now c.args.self.now.known.items _ _ d.0 c.args.slot c.begin.ensures.here
             c.begin.ensures.others d.2,
+        trust_begin c.args.web.now _ c.args.self.now.known.items _ _ c.args.slot d.0 c.doubt.ensures.here
+            c.begin.ensures.others d.2,
       ),
+      c.doubt.ensures.doubted,
     )
 
 pub index-requires : goal.index-requires
@@ -38,7 +41,11 @@ loop-self-preserved c =
         d.1,
         one_dropped c.args.web.now c.args.self.now.known.items c.args.slot known _ t.0 d.0 c.loop-self.self.first
             d.2 (subst (λ list. Waits c.args.web.now c.args.self.now.known.items c.args.slot known list) t.1 inv.1.2),
+        trust_more c.args.web.now _ _ c.args.self.now.known.items known _ c.args.slot c.loop-self.self.first t.0 d.0
+            c.doubt-in-loop-self.ensures.doubted.fewer c.doubt-in-loop-self.ensures.here d.2
+            (subst (λ list. Trusts c.loop-self.dirty.clean.items c.args.self.now.known.items c.args.slot known list) t.1 inv.1.3),
       ),
+      doubted_more _ _ _ inv.2 c.doubt-in-loop-self.ensures.doubted,
     )
 
 pub returns-clause-forgotten : goal.returns-clause-forgotten
@@ -48,3 +55,13 @@ returns-clause-forgotten c =
     let long = inv.1.1.0 in
     waits_done c.args.web.now c.args.self.now.known.items c.loop-self.self.known.items inv.1.0 c.args.slot
     (omega (arith, done, long)) inv.1.2
+
+pub returns-clause-doubted : goal.returns-clause-doubted
+returns-clause-doubted c = c.loop-self.invariant.2
+
+pub returns-clause-trusted : goal.returns-clause-trusted
+returns-clause-trusted c =
+    let inv = c.loop-self.invariant in
+    let done = c.loop-self-test.false in
+    let long = inv.1.1.0 in
+    trust_done _ c.args.self.now.known.items c.loop-self.self.known.items c.args.slot inv.1.0 (omega (arith, done, long)) inv.1.3

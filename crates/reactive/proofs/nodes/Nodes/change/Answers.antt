@@ -1,8 +1,8 @@
-use Rattle.reactive.proofs.{not_found, pointer_in, set_had, set_puts, simple_still, stuck_none}
+use Rattle.reactive.proofs.{not_found, key_pointer, set_had, set_puts, simple_still, stuck_none}
 use Rattle.reactive.proofs.nodes.Nodes.change.Goals as goal
 
 pub returns-in_default-clause-none : goal.returns-in_default-clause-none
-returns-in_default-clause-none g c = not_found _ (pointer_in c.args.key) c.in_default.ensures
+returns-in_default-clause-none g c = not_found _ (key_pointer c.args.key) c.in_default.ensures
 
 pub returns-then-not-can_write-clause-none : goal.returns-then-not-can_write-clause-none
 returns-then-not-can_write-clause-none g c = stuck_none (g.met.S.AnyStorage.sound _) c.requires.simple c.args.key

@@ -1,5 +1,7 @@
-use Rattle.reactive.proofs.{arrives, gave_up, way_reaches}
-use Rattle.reactive.proofs.{inl, refl, ap, arith, kind_by, rules, way_back, way_known, way_mute, way_on, way_round}
+use Rattle.reactive.proofs.{ap, arith, arrives, gave_up, inl, kind_by, refl, rules, sym, ◌∙◌}
+use Rattle.reactive.proofs.{way_back, way_blames, way_known, way_needs, way_on, way_round}
+use Rattle.generational_errors.specs.declared.error.StoreError.TheVariants.{OutOfMemory}
+use Rattle.reactive.specs.declared.fault.Fault.TheVariants as fault
 use Rattle.reactive.proofs.nodes.Nodes.go_on.Goals as goal
 
 pub returns-in-Some-clause-went : goal.returns-in-Some-clause-went
@@ -13,13 +15,13 @@ returns-in-None-clause-went g c = λ G start o.
 
 pub returns-then-is_on-clause-went : goal.returns-then-is_on-clause-went
 returns-then-is_on-clause-went g c = λ G start o.
+    rw (c.note.ensures.store, c.note.ensures.links) (c.in-Needs.ensures.advanced G o.sound o.last).sound
+
+pub returns-then-is_on-clause-blamed : goal.returns-then-is_on-clause-blamed
+returns-then-is_on-clause-blamed g c = λ G start o kept.
     let a = c.in-Needs.ensures.advanced G o.sound o.last in
-    let is = c.is_on.ensures c.if-is_on.true in
-    rw (c.note.ensures.store, c.note.ensures.links) (
-      a.sound,
-      way_round o a c.in-Needs.next c.in-Needs.place a.stepped.0 is.0 is.1
-          (rw c.in-Ok.ensures.items at is.2) is.3,
-    )
+    rw c.in-Ok.ensures.items (way_round o _ c.in-Needs.next c.in-Needs.place a.stepped.0
+    (rw c.in-Ok.ensures.items at (c.is_on.ensures c.if-is_on.true)))
 
 pub returns-else-is_on-clause-went : goal.returns-else-is_on-clause-went
 returns-else-is_on-clause-went g c = λ G start o.
@@ -28,32 +30,58 @@ returns-else-is_on-clause-went g c = λ G start o.
     (way_on o a c.in-Needs.next c.in-Needs.place a.stepped.0 a.stepped.1)
 
 pub returns-in-Gone-clause-went : goal.returns-in-Gone-clause-went
-returns-in-Gone-clause-went g c = λ G start o.
+returns-in-Gone-clause-went g c = λ G start o. (c.in-Gone.ensures.advanced G o.sound o.last).sound
+
+pub returns-in-Gone-clause-blamed : goal.returns-in-Gone-clause-blamed
+returns-in-Gone-clause-blamed g c = λ G start o kept.
     let a = c.in-Gone.ensures.advanced G o.sound o.last in
-    (a.sound, (way_mute o a a.stepped.0, way_reaches o a c.in-Gone.other a.stepped.1, ap kind_by a.stepped.2))
+    way_blames o _ (fault.Gone c.in-Gone.other) (
+      a.stepped.0,
+      a.stepped.1,
+      sym (ap (λ kind. kind c.in-Gone.other) c.in-Gone.ensures.kinds) ∙ ap kind_by a.stepped.2,
+    )
 
 pub returns-in-NoValue-clause-went : goal.returns-in-NoValue-clause-went
-returns-in-NoValue-clause-went g c = λ G start o.
-    let a = c.in-NoValue.ensures.advanced G o.sound o.last in
-    let none = a.stepped in (
-      a.sound,
-      (
-        way_mute o a (gave_up G c.args.top.key none.0 none.1 none.2),
-        way_reaches o a c.args.top.key (arrives c.args.top.key),
-        none,
-      ),
-    )
+returns-in-NoValue-clause-went g c = λ G start o. (c.in-NoValue.ensures.advanced G o.sound o.last).sound
+
+pub returns-in-NoValue-clause-blamed : goal.returns-in-NoValue-clause-blamed
+returns-in-NoValue-clause-blamed g c = λ G start o kept.
+    let none = (c.in-NoValue.ensures.advanced G o.sound o.last).stepped in
+    way_blames o _ (fault.NoValue c.args.top.key)
+    (gave_up G c.args.top.key none.0 none.1 none.2, arrives c.args.top.key, none)
+
+pub returns-in-Some-kept_fault-clause-went : goal.returns-in-Some-kept_fault-clause-went
+returns-in-Some-kept_fault-clause-went g c = λ G start o. (c.in-Needs.ensures.advanced G o.sound o.last).sound
+
+pub returns-in-Some-kept_fault-clause-blamed : goal.returns-in-Some-kept_fault-clause-blamed
+returns-in-Some-kept_fault-clause-blamed g c = λ G start o kept.
+    let a = c.in-Needs.ensures.advanced G o.sound o.last in
+    way_needs o _ c.in-Needs.next c.in-Some-kept_fault.fault a.stepped.0
+    (kept c.in-Needs.next.id.slot _ c.in-Some-kept_fault.ensures)
+
+pub returns-in-Some-kept_fault-clause-lasts : goal.returns-in-Some-kept_fault-clause-lasts
+returns-in-Some-kept_fault-clause-lasts g c = λ G start o. (c.in-Needs.ensures.advanced G o.sound o.last).leaves.known
 
 pub returns-then-not-note-clause-went : goal.returns-then-not-note-clause-went
 returns-then-not-note-clause-went g c = λ G start o. rw (c.note.ensures.store, c.note.ensures.links)
-    ((c.in-Needs.ensures.advanced G o.sound o.last).sound, inl refl)
+    (c.in-Needs.ensures.advanced G o.sound o.last).sound
+
+pub returns-then-not-note-clause-blamed : goal.returns-then-not-note-clause-blamed
+returns-then-not-note-clause-blamed g c = λ G start o kept. way_blames o _ (fault.Store OutOfMemory) (inl refl)
 
 pub returns-in-Err-clause-went : goal.returns-in-Err-clause-went
 returns-in-Err-clause-went g c = λ G start o. rw (c.note.ensures.store, c.note.ensures.links)
-    ((c.in-Needs.ensures.advanced G o.sound o.last).sound, inl refl)
+    (c.in-Needs.ensures.advanced G o.sound o.last).sound
+
+pub returns-in-Err-clause-blamed : goal.returns-in-Err-clause-blamed
+returns-in-Err-clause-blamed g c = λ G start o kept.
+    rw c.in-Err.ensures.items (way_blames o _ (fault.Store OutOfMemory) (inl refl))
 
 pub returns-in-Full-clause-went : goal.returns-in-Full-clause-went
-returns-in-Full-clause-went g c = λ G start o. ((c.in-Full.ensures.advanced G o.sound o.last).sound, inl refl)
+returns-in-Full-clause-went g c = λ G start o. (c.in-Full.ensures.advanced G o.sound o.last).sound
+
+pub returns-in-Full-clause-blamed : goal.returns-in-Full-clause-blamed
+returns-in-Full-clause-blamed g c = λ G start o kept. way_blames o _ (fault.Store OutOfMemory) (inl refl)
 
 pub returns-in-Some-clause-lasts : goal.returns-in-Some-clause-lasts
 returns-in-Some-clause-lasts g c = λ G start o. (c.in-Settled.ensures.advanced G o.sound o.last).leaves.known

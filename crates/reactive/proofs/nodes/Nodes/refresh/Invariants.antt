@@ -17,3 +17,4 @@ invariant-loop-step g l = IsSimple (g.S.AnyStorage.state l.self.store) × (l.sel
     × ((G : Graph _) → IsSound g.R.Rule.plan G l.fn.self.revision (book (g.S.AnyStorage.state l.fn.self.store) l.fn.self.links)
     → Lasts (book (g.S.AnyStorage.state l.fn.self.store) l.fn.self.links)
     (book (g.S.AnyStorage.state l.self.store) l.self.links))
+    × (l.faults ≡ l.fn.faults)

@@ -1,5 +1,5 @@
-use Rattle.reactive.proofs.{ap, arith, book, forgotten, HasForgotten, known_at, Leans, none-some, refl, rules, spared_by, subst, sym}
-use Rattle.reactive.proofs.{vec_items, ℕ, ◌∙◌, ◌≡◌, ◌⊎◌}
+use Rattle.reactive.proofs.{ap, arith, book, forgotten, HasForgotten, dirtied_after, known_at, Leans, none-some, refl, clean_at, rules, spared_by, subst, sym, true}
+use Rattle.reactive.proofs.{vec_items, ℕ, ◌∙◌, ◌≡◌, ◌≢◌, ◌⊎◌}
 use Rattle.reactive.proofs.nodes.Nodes.reset.Goals as goal
 
 pub returns-clause-put : goal.returns-clause-put
@@ -41,3 +41,14 @@ returns-clause-spared g c =
     (λ none. none-some _ (sym none ∙ c.in-Some-change.ensures.changed.had))
     (subst (λ l. (s : ℕ) → (known_at now s ≡ known_at (vec_items l.marks.known) s)
     ⊎ Leans l.web (known_at (vec_items l.marks.known)) s c.args.key.id.slot) c.change.ensures.links c.forget.ensures.spared)
+
+pub returns-clause-dirtied : goal.returns-clause-dirtied
+returns-clause-dirtied g c =
+    dirtied_after (book (g.S.AnyStorage.state c.args.self.now.store) c.args.self.now.links)
+    (book (g.S.AnyStorage.state c.change.new.self.store)
+    (record { marks = c.forget.new.self; web = c.change.new.self.links.web })) _ _ c.args.key
+    c.forget.ensures.doubted
+    (subst (λ l. (s : ℕ) → clean_at (vec_items c.forget.new.dirty.clean) s ≡ true
+    → (s ≢ c.args.key.id.slot) × (known_at c.forget.new.self.known.items s ≡ known_at (vec_items l.marks.known) s))
+    c.change.ensures.links c.forget.ensures.trusted)
+    c.in-Some-change.ensures.changed.put.others

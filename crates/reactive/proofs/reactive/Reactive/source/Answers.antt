@@ -1,8 +1,9 @@
-use Rattle.reactive.proofs.{arith, kept_insert, refl}
+use Rattle.reactive.proofs.{arith, kept_insert, refl, whole_cleared}
 use Rattle.reactive.proofs.reactive.Reactive.source.Goals as goal
 
 pub invariant_of-self : goal.invariant_of-self
-invariant_of-self g c = kept_insert c.insert.result _ _ _ _ _ c.self.invariant c.insert.ensures.simple
+invariant_of-self g c = whole_cleared _ _ _ _ (kept_insert c.insert.result _ _ _ _ _ _ _ c.self.invariant.kept refl
+    c.insert.ensures.dirtied c.insert.ensures.dirty c.insert.ensures.simple
     c.insert.ensures.revision c.insert.ensures.put c.insert.ensures.forgotten c.insert.ensures.refused
     c.insert.ensures.links
     (record {
@@ -10,4 +11,5 @@ invariant_of-self g c = kept_insert c.insert.result _ _ _ _ _ c.self.invariant c
       plain = λ v is. refl;
       changed = refl;
       checked = omega arith;
-    })
+    }))
+    c.clear.ensures
