@@ -16,19 +16,19 @@ use Rattle.signals.specs.declared.signal.Signal.{Signal}
 
 module _ {T : Type 0} where
   -- a signal's box, and that box without its element type
-  abbrev pub box_in : Signal T → GenerationalBox T
-  box_in s = s.raw
+  abbrev pub raw_box : Signal T → GenerationalBox T
+  raw_box s = s.raw
 
-  abbrev pub pointer_in : Signal T → GenerationalPointer
-  pointer_in s = pointer_of (box_in s)
+  abbrev pub signal_pointer : Signal T → GenerationalPointer
+  signal_pointer s = pointer_of (raw_box s)
 
   -- the answer to a making of a signal, and of an alias
   abbrev pub signal_answer : Result (Signal T) (Refusal T) → Answer T
-  signal_answer (Ok s) = Made (pointer_in s)
+  signal_answer (Ok s) = Made (signal_pointer s)
   signal_answer (Err r) = refuses r.cause
 
   abbrev pub alias_answer : Result (Signal T) (Refused BorrowError) → Answer T
-  alias_answer (Ok s) = Made (pointer_in s)
+  alias_answer (Ok s) = Made (signal_pointer s)
   alias_answer (Err e) = read_refused e
 
   -- in R each box that reaches what a box reaches in S sees a value

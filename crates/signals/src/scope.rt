@@ -15,18 +15,18 @@ ghost use Rattle.generational_core.specs.Seeing.{value_in};
 ghost use Rattle.generational_core.specs.StepCalls.{id_of_owner};
 ghost use Rattle.generational_core.specs.Steps.{Meets};
 ghost use Rattle.signals.specs.Scopes.{HasSignals, LeavesScopes, LeavesOtherScopes};
-ghost use Rattle.signals.specs.Signals.{pointer_in, signal_answer, alias_answer};
+ghost use Rattle.signals.specs.Signals.{signal_pointer, signal_answer, alias_answer};
 
 use crate::signal::Signal;
 use generational_core::{
     AnyStorage, BorrowMutError, BorrowResult, Location, Owner, OwnerId, Refusal, Refused, Storage,
     StoreError,
 };
-use generational_sessions::caller_laws::{
+use generational_laws::caller_laws::{
     boxes_end_for_good, calls_leave_other_boxes, calls_leave_other_owners,
     refused_calls_change_nothing,
 };
-use generational_sessions::laws::{
+use generational_laws::laws::{
     boxes_and_guards_are_new, made_boxes_see_their_values, owners_list_their_boxes,
 };
 use std::fmt;
@@ -128,16 +128,16 @@ impl Scope {
         ensures step { Meets (S.state store.old) (MakeShared (Some self.now) value location)
             (signal_answer result) (S.state store.new) }
         ensures seen { IfOk result (λ signal.
-            value_in (S.state store.new) (pointer_in signal) ≡ Some value) }
+            value_in (S.state store.new) (signal_pointer signal) ≡ Some value) }
         ensures others { IfOk result (λ signal. (b : GenerationalPointer) →
-            name_of (pointer_in signal) ≢ name_of b →
+            name_of (signal_pointer signal) ≢ name_of b →
             IsUnchanged (S.state store.old) b (S.state store.new)) }
         ensures listed { IfOk result (λ signal. (names : List Name) →
             HasSignals (S.state store.old) self.now names →
-            HasSignals (S.state store.new) self.now (names ++ name_of (pointer_in signal) ∷ [])) }
+            HasSignals (S.state store.new) self.now (names ++ name_of (signal_pointer signal) ∷ [])) }
         ensures unlisted { IfOk result (λ signal. (scope : OwnerName) (names : List Name) →
             HasSignals (S.state store.old) scope names →
-            among names (name_of (pointer_in signal)) ≡ false) }
+            among names (name_of (signal_pointer signal)) ≡ false) }
         ensures scopes { LeavesOtherScopes (S.state store.old) self.now (S.state store.new) }
         ensures refused { OnErr result (S.state store.new ≡ S.state store.old) }
         ensures back { IfErr result (λ refusal. refusal.value ≡ value) }
@@ -170,26 +170,26 @@ impl Scope {
     /// let kept = page.alias(store, clicks)?;
     /// ```
     pub fn alias<T, S: Storage<T>>(&self, store: &mut S, of: Signal<T>) -> BorrowResult<Signal<T>>
-        ensures step { Meets (S.state store.old) (Refer (Some self.now) (pointer_in of))
+        ensures step { Meets (S.state store.old) (Refer (Some self.now) (signal_pointer of))
             (alias_answer result) (S.state store.new) }
         ensures reached { IfOk result (λ signal.
-            reach (S.state store.new) (pointer_in signal) ≡
-            reach (S.state store.old) (pointer_in of)) }
+            reach (S.state store.new) (signal_pointer signal) ≡
+            reach (S.state store.old) (signal_pointer of)) }
         ensures together { IfOk result (λ signal.
-            reach (S.state store.new) (pointer_in signal) ≡
-            reach (S.state store.new) (pointer_in of)) }
+            reach (S.state store.new) (signal_pointer signal) ≡
+            reach (S.state store.new) (signal_pointer of)) }
         ensures seen { IfOk result (λ signal.
-            value_in (S.state store.new) (pointer_in signal) ≡
-            value_in (S.state store.old) (pointer_in of)) }
+            value_in (S.state store.new) (signal_pointer signal) ≡
+            value_in (S.state store.old) (signal_pointer of)) }
         ensures others { IfOk result (λ signal. (b : GenerationalPointer) →
-            name_of (pointer_in signal) ≢ name_of b →
+            name_of (signal_pointer signal) ≢ name_of b →
             IsUnchanged (S.state store.old) b (S.state store.new)) }
         ensures listed { IfOk result (λ signal. (names : List Name) →
             HasSignals (S.state store.old) self.now names →
-            HasSignals (S.state store.new) self.now (names ++ name_of (pointer_in signal) ∷ [])) }
+            HasSignals (S.state store.new) self.now (names ++ name_of (signal_pointer signal) ∷ [])) }
         ensures unlisted { IfOk result (λ signal. (scope : OwnerName) (names : List Name) →
             HasSignals (S.state store.old) scope names →
-            among names (name_of (pointer_in signal)) ≡ false) }
+            among names (name_of (signal_pointer signal)) ≡ false) }
         ensures scopes { LeavesOtherScopes (S.state store.old) self.now (S.state store.new) }
         ensures refused { OnErr result (S.state store.new ≡ S.state store.old) }
     {

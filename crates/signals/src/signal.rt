@@ -14,24 +14,24 @@ ghost use Rattle.generational_core.specs.Machine.Answer.{Old};
 ghost use Rattle.generational_core.specs.Seeing.{value_in};
 ghost use Rattle.generational_core.specs.Steps.{Meets};
 ghost use Rattle.signals.specs.Scopes.{LeavesScopes};
-ghost use Rattle.signals.specs.Signals.{box_in, pointer_in, AllSee};
+ghost use Rattle.signals.specs.Signals.{raw_box, signal_pointer, AllSee};
 
 use generational_core::{
     BorrowMutError, BorrowMutResult, BorrowResult, GenerationalBox, GenerationalBoxId,
     GenerationalRefMut, Location, Refused, Storage,
 };
-use generational_sessions::caller_laws::{
+use generational_laws::caller_laws::{
     calls_leave_other_boxes, calls_leave_other_owners, guards_stay_known,
     pointed_boxes_see_what_others_saw, refused_calls_change_nothing,
     released_borrows_leave_the_rest,
 };
-use generational_sessions::laws::{made_boxes_see_their_values, unborrowed_boxes_are_free};
+use generational_laws::laws::{made_boxes_see_their_values, unborrowed_boxes_are_free};
 use std::alloc::AllocError;
 use std::fmt;
 use std::hash::{Hash, Hasher};
 
 /// A signal: it refers to a value that other signals may refer to as well, and is `Copy`. Contracts model
-/// it as its box (`box_in`).
+/// it as its box (`raw_box`).
 ///
 /// A signal owns nothing: it reads its value until its scope ends.
 pub struct Signal<T> {
@@ -60,7 +60,7 @@ impl<T> PartialEq for Signal<T> {
     ghost use Rattle.std.specs.Ordering.{on};
     ghost use Rattle.generational_core.specs.Boxes.{has_same_id};
 
-    ghost eq = { on pointer_in has_same_id };
+    ghost eq = { on signal_pointer has_same_id };
 
     ghost laws = { Prim.search (comparing, rules) };
 
@@ -82,7 +82,7 @@ impl<T> Hash for Signal<T> {
     ghost use Rattle.std.specs.Cmp.Rules.{hashing};
     ghost use Rattle.generational_core.specs.Boxes.{hashed_id};
 
-    ghost hash_input = { λ it. hashed_id (pointer_in it) };
+    ghost hash_input = { λ it. hashed_id (signal_pointer it) };
 
     ghost respects_eq = { Prim.search (hashing, rules) };
 
@@ -95,7 +95,7 @@ impl<T> Hash for Signal<T> {
 impl<T> fmt::Debug for Signal<T> {
     ghost use Rattle.generational_core.specs.Texts.{id_text};
 
-    ghost debug_output = { λ it. Some (id_text (pointer_in it).id) };
+    ghost debug_output = { λ it. Some (id_text (signal_pointer it).id) };
 
     fn fmt<W: fmt::Write>(&self, f: &mut fmt::Formatter<W>) -> fmt::Result {
         write!(f, "{:?}", self.raw)
@@ -109,7 +109,7 @@ impl<T> Signal<T> {
     /// let is_live = kept.as_box().is_live(store);
     /// ```
     pub fn as_box(self) -> GenerationalBox<T>
-        ensures { result ≡ box_in self }
+        ensures { result ≡ raw_box self }
     {
         self.raw
     }
@@ -121,7 +121,7 @@ impl<T> Signal<T> {
     /// let id = kept.id();
     /// ```
     pub fn id(self) -> GenerationalBoxId
-        ensures { result ≡ (pointer_in self).id }
+        ensures { result ≡ (signal_pointer self).id }
     {
         self.raw.id()
     }
@@ -146,11 +146,11 @@ impl<T> Signal<T> {
     ) -> BorrowResult<R>
         requires { F.IsAlwaysCallable f }
         ensures read { IfOk result (λ answer. (v : T) ×
-            (value_in (S.state store.old) (pointer_in self) ≡ Some v) ×
+            (value_in (S.state store.old) (signal_pointer self) ≡ Some v) ×
             FnOnceReturnsAt F.FnOnce f v answer) }
         ensures ticket { OnOk result (S.state store.new ≡ take_ticket (S.state store.old)) }
         ensures refused { IfErr result (λ cause. (S.state store.new ≡ S.state store.old) ×
-            Meets (S.state store.old) (Read (pointer_in self) location) (read_refused cause)
+            Meets (S.state store.old) (Read (signal_pointer self) location) (read_refused cause)
             (S.state store.new)) }
     {
         guards_stay_known::<T>();
@@ -190,15 +190,15 @@ impl<T> Signal<T> {
     where
         T: Drop,
         ensures set { OnOk result (
-            IsSet (S.state store.old) (pointer_in self) value (S.state store.new)) }
+            IsSet (S.state store.old) (signal_pointer self) value (S.state store.new)) }
         ensures seen { OnOk result (
-            AllSee (S.state store.old) (pointer_in self) value (S.state store.new)) }
+            AllSee (S.state store.old) (signal_pointer self) value (S.state store.new)) }
         ensures others { OnOk result ((b : GenerationalPointer) →
-            reach (S.state store.old) b ≢ reach (S.state store.old) (pointer_in self) →
+            reach (S.state store.old) b ≢ reach (S.state store.old) (signal_pointer self) →
             IsUnchanged (S.state store.old) b (S.state store.new)) }
         ensures scopes { LeavesScopes (S.state store.old) (S.state store.new) }
         ensures refused { IfErr result (λ refusal. (S.state store.new ≡ S.state store.old) ×
-            Meets (S.state store.old) (Write (pointer_in self) location) (end_refused refusal.1)
+            Meets (S.state store.old) (Write (signal_pointer self) location) (end_refused refusal.1)
             (S.state store.new)) }
         ensures back { IfErr result (λ refusal. refusal.0 ≡ value) }
     {
@@ -235,20 +235,20 @@ impl<T> Signal<T> {
         f: F,
     ) -> BorrowMutResult<R>
         requires { (value : MutBor T) →
-            value_in (S.state store.old) (pointer_in self) ≡ Some value.now → F.pre f value }
+            value_in (S.state store.old) (signal_pointer self) ≡ Some value.now → F.pre f value }
         ensures changed { IfOk result (λ answer. (old : T) × (changed : T) ×
-            (value_in (S.state store.old) (pointer_in self) ≡ Some old) ×
+            (value_in (S.state store.old) (signal_pointer self) ≡ Some old) ×
             FnOnceReturnsAtMut F.FnOnce f old answer changed ×
-            Meets (S.state store.old) (SetValue (pointer_in self) changed) (Old old)
+            Meets (S.state store.old) (SetValue (signal_pointer self) changed) (Old old)
             (S.state store.new) ×
-            AllSee (S.state store.old) (pointer_in self) changed (S.state store.new)) }
-        ensures free { is_ok result ≡ can_write (S.state store.old) (pointer_in self) }
+            AllSee (S.state store.old) (signal_pointer self) changed (S.state store.new)) }
+        ensures free { is_ok result ≡ can_write (S.state store.old) (signal_pointer self) }
         ensures others { OnOk result ((b : GenerationalPointer) →
-            reach (S.state store.old) b ≢ reach (S.state store.old) (pointer_in self) →
+            reach (S.state store.old) b ≢ reach (S.state store.old) (signal_pointer self) →
             IsUnchanged (S.state store.old) b (S.state store.new)) }
         ensures scopes { LeavesScopes (S.state store.old) (S.state store.new) }
         ensures refused { IfErr result (λ cause. (S.state store.new ≡ S.state store.old) ×
-            Meets (S.state store.old) (Write (pointer_in self) location) (end_refused cause)
+            Meets (S.state store.old) (Write (signal_pointer self) location) (end_refused cause)
             (S.state store.new)) }
     {
         if !self.raw.can_write(store) {
@@ -259,8 +259,8 @@ impl<T> Signal<T> {
 
     // Why a write that may not be made fails. Nothing changes.
     fn hindrance<S: Storage<T>>(self, store: &mut S, location: Location) -> Refused<BorrowMutError>
-        requires { can_write (S.state store.old) (pointer_in self) ≡ false }
-        ensures step { Meets (S.state store.old) (Write (pointer_in self) location)
+        requires { can_write (S.state store.old) (signal_pointer self) ≡ false }
+        ensures step { Meets (S.state store.old) (Write (signal_pointer self) location)
             (end_refused result) (S.state store.new) }
         ensures unchanged { S.state store.new ≡ S.state store.old }
     {
@@ -282,9 +282,9 @@ impl<T> Signal<T> {
     pub fn with<S: Storage<T>, R, F: FnOnce(&T) -> R>(self, store: &S, f: F) -> Option<R>
         requires { F.IsAlwaysCallable f }
         ensures read { IfSome result (λ answer. (v : T) ×
-            (value_in (S.state store.now) (pointer_in self) ≡ Some v) ×
+            (value_in (S.state store.now) (signal_pointer self) ≡ Some v) ×
             FnOnceReturnsAt F.FnOnce f v answer) }
-        ensures seen { is_some result ≡ is_some (value_in (S.state store.now) (pointer_in self)) }
+        ensures seen { is_some result ≡ is_some (value_in (S.state store.now) (signal_pointer self)) }
     {
         match self.raw.peek(store) {
             Some(value) => Some(f(value)),
@@ -302,7 +302,7 @@ impl<T> Signal<T> {
     /// }
     /// ```
     pub fn peek<S: Storage<T>>(self, store: &S) -> Option<&T>
-        ensures { option_copied result ≡ value_in (S.state store.now) (pointer_in self) }
+        ensures { option_copied result ≡ value_in (S.state store.now) (signal_pointer self) }
     {
         self.raw.peek(store)
     }
@@ -317,7 +317,7 @@ impl<T> Signal<T> {
     /// }
     /// ```
     pub fn is_readable<S: Storage<T>>(self, store: &S) -> bool
-        ensures { result ≡ can_read (S.state store.now) (pointer_in self) }
+        ensures { result ≡ can_read (S.state store.now) (signal_pointer self) }
     {
         self.raw.can_read(store)
     }
@@ -334,13 +334,13 @@ impl<T> Signal<T> {
     /// signal.swap_source(store, other)?;
     /// ```
     pub fn swap_source<S: Storage<T>>(self, store: &mut S, to: Signal<T>) -> BorrowMutResult<()>
-        ensures step { Meets (S.state store.old) (Point (pointer_in self) (pointer_in to))
+        ensures step { Meets (S.state store.old) (Point (signal_pointer self) (signal_pointer to))
             (end_answer result) (S.state store.new) }
         ensures reached { OnOk result (
-            reach (S.state store.new) (pointer_in self) ≡ reach (S.state store.old) (pointer_in to)) }
-        ensures seen { OnOk result (value_in (S.state store.new) (pointer_in self) ≡
-            value_in (S.state store.old) (pointer_in to)) }
-        ensures others { (b : GenerationalPointer) → name_of (pointer_in self) ≢ name_of b →
+            reach (S.state store.new) (signal_pointer self) ≡ reach (S.state store.old) (signal_pointer to)) }
+        ensures seen { OnOk result (value_in (S.state store.new) (signal_pointer self) ≡
+            value_in (S.state store.old) (signal_pointer to)) }
+        ensures others { (b : GenerationalPointer) → name_of (signal_pointer self) ≢ name_of b →
             IsUnchanged (S.state store.old) b (S.state store.new) }
         ensures scopes { LeavesScopes (S.state store.old) (S.state store.new) }
         ensures refused { OnErr result (S.state store.new ≡ S.state store.old) }
