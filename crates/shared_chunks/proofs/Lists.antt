@@ -6,31 +6,31 @@ use Rattle.std.specs.Prelude.{◌≤◌, vec_capacity}
 use Rattle.std.specs.Vec.{vec_items}
 use Rattle.std.proofs.Math.Seq.{take-suc}
 use Rattle.std.proofs.lemmas.List.{append-nil, append_assoc}
-use Rattle.shared_chunks.specs.Listed.{AreLarge, joined}
+use Rattle.shared_chunks.specs.Listed.{AreLarge, joined_chunks}
 
 module _ {X : Type 0} where
   -- with another chunk
   pub joined_snoc : (chunks : List (Vec X)) (chunk : Vec X)
-      → joined (chunks ++ chunk ∷ []) ≡ joined chunks ++ vec_items chunk
+      → joined_chunks (chunks ++ chunk ∷ []) ≡ joined_chunks chunks ++ vec_items chunk
   joined_snoc [] chunk = append-nil (vec_items chunk)
   joined_snoc (c ∷ cs) chunk =
       ap (λ xs. vec_items c ++ xs) (joined_snoc cs chunk)
-      ∙ sym (append_assoc (vec_items c) (joined cs) (vec_items chunk))
+      ∙ sym (append_assoc (vec_items c) (joined_chunks cs) (vec_items chunk))
 
   -- the items of the first chunks and of another one
   pub joined_take : (chunks : List (Vec X)) (i : ℕ) (d : Vec X) → i < length chunks
-      → joined (take (i + 1) chunks) ≡ joined (take i chunks) ++ vec_items (get_or chunks i d)
+      → joined_chunks (take (i + 1) chunks) ≡ joined_chunks (take i chunks) ++ vec_items (get_or chunks i d)
   joined_take chunks i d h =
       let next : i + 1 ≡ suc i = omega arith in
-      ap (λ k. joined (take k chunks)) next
-      ∙ (ap joined (take-suc chunks i d h) ∙ joined_snoc (take i chunks) (get_or chunks i d))
+      ap (λ k. joined_chunks (take k chunks)) next
+      ∙ (ap joined_chunks (take-suc chunks i d h) ∙ joined_snoc (take i chunks) (get_or chunks i d))
 
   -- how many items full chunks have with another chunk
   pub joined_len : (full more : List (Vec X)) (last : Vec X) (n : ℕ) → more ≡ full ++ last ∷ []
-      → n ≡ length (joined full) → n + length (vec_items last) ≡ length (joined more)
+      → n ≡ length (joined_chunks full) → n + length (vec_items last) ≡ length (joined_chunks more)
   joined_len full more last n is_more had =
-      let all = ap (λ cs. length (joined cs)) is_more ∙ ap length (joined_snoc full last) in
-      let both = length-append (joined full) (vec_items last) in
+      let all = ap (λ cs. length (joined_chunks cs)) is_more ∙ ap length (joined_snoc full last) in
+      let both = length-append (joined_chunks full) (vec_items last) in
       omega arith
 
   -- another large chunk

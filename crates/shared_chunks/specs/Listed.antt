@@ -9,9 +9,9 @@ pub record Listed (X : Type 0) : Type 0 where
   pub room : ℕ
 
 -- the items of these chunks, one chunk after the other
-abbrev pub joined : {X : Type 0} → List (Vec X) → List X
-joined [] = []
-joined (chunk ∷ chunks) = vec_items chunk ++ joined chunks
+abbrev pub joined_chunks : {X : Type 0} → List (Vec X) → List X
+joined_chunks [] = []
+joined_chunks (chunk ∷ chunks) = vec_items chunk ++ joined_chunks chunks
 
 -- each of these chunks has room for 1024 items at least
 abbrev pub AreLarge : {X : Type 0} → List (Vec X) → Type 0

@@ -38,18 +38,18 @@ pub struct Chunks<X> {
 impl<X> Model for Chunks<X> {
     ghost use Rattle.std.specs.Prelude.{◌≡◌, ◌+◌, ◌-◌, ◌^◌, ◌<◌, ◌++◌, [], length, vec_len};
     ghost use Rattle.std.specs.Prelude.{vec_capacity};
-    ghost use Rattle.shared_chunks.specs.Listed.{Listed, joined};
+    ghost use Rattle.shared_chunks.specs.Listed.{Listed, joined_chunks};
 
     ghost Value = { Listed X };
 
     ghost view = { λ c. record {
-      items = joined c.full.items ++ c.last.items;
+      items = joined_chunks c.full.items ++ c.last.items;
       room = (vec_capacity c.last - vec_len c.last) + vec_capacity c.spare;
     } };
 
     ghost invariant = { λ c. (c.spare.items ≡ [])
         × (0 < vec_capacity c.spare → vec_len c.full < vec_capacity c.full)
-        × (c.full_len ≡ length (joined c.full.items))
+        × (c.full_len ≡ length (joined_chunks c.full.items))
         × ((c.full_len + vec_len c.last) + ((vec_capacity c.last - vec_len c.last)
         + vec_capacity c.spare) < 2 ^ 64) };
 }

@@ -3,9 +3,9 @@ use Rattle.std.specs.Prelude.{◌≡◌, ℕ, ◌+◌, List, []}
 use Rattle.generational_core.specs.declared.rows.BaseRow.{BaseRow}
 use Rattle.generational_core.specs.Plain.{Plain}
 use Rattle.generational_core.specs.Rows.{told_by}
-use Rattle.shared_history.specs.Counts.{Counts, counted}
+use Rattle.shared_history.specs.Counts.{Counts, counted_of}
 use Rattle.shared_history.specs.declared.base.TrimmedSteps.{TrimmedSteps}
-use Rattle.shared_records.specs.Kinds.{count}
+use Rattle.shared_records.specs.Kinds.{count_of_kind}
 use Rattle.shared_records.specs.declared.step.Kind.{Kind}
 use Rattle.shared_records.specs.declared.step.Kind.TheVariants.{Made, Lent, Changed, Refused}
 use Rattle.shared_records.specs.declared.step.Step.{Step}
@@ -50,19 +50,19 @@ new_base number = record {
 }
 
 -- a tally counts the trimmed steps and these: for each kind as many as there are
-abbrev pub IsCounted : Counts → BaseState → List Step → Type 0
-IsCounted c base steps = (kind : Kind) → trimmed_of kind base + count kind steps ≡ counted kind c
+abbrev pub IsTallied : Counts → BaseState → List Step → Type 0
+IsTallied c base steps = (kind : Kind) → trimmed_of kind base + count_of_kind kind steps ≡ counted_of kind c
 
 -- a base counts all of these steps as trimmed, in addition to those of the previous base
 abbrev pub Trims : BaseState → List Step → BaseState → Type 0
 Trims before steps after =
-    (kind : Kind) → trimmed_of kind after ≡ trimmed_of kind before + count kind steps
+    (kind : Kind) → trimmed_of kind after ≡ trimmed_of kind before + count_of_kind kind steps
 
 -- how many steps of each kind are trimmed after these
 abbrev pub counts_of : BaseState → List Step → TrimmedSteps
 counts_of base steps = record {
-  made = base.made + count Made steps;
-  lent = base.lent + count Lent steps;
-  changed = base.changed + count Changed steps;
-  refused = base.refused + count Refused steps;
+  made = base.made + count_of_kind Made steps;
+  lent = base.lent + count_of_kind Lent steps;
+  changed = base.changed + count_of_kind Changed steps;
+  refused = base.refused + count_of_kind Refused steps;
 }

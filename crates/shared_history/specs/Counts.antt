@@ -21,11 +21,11 @@ raised Changed c = record c { changed = c.changed + 1 }
 raised Refused c = record c { refused = c.refused + 1 }
 
 -- how many steps of this kind it counts
-abbrev pub counted : Kind → Counts → ℕ
-counted Made c = c.made
-counted Lent c = c.lent
-counted Changed c = c.changed
-counted Refused c = c.refused
+abbrev pub counted_of : Kind → Counts → ℕ
+counted_of Made c = c.made
+counted_of Lent c = c.lent
+counted_of Changed c = c.changed
+counted_of Refused c = c.refused
 
 -- both together, with the first one's worker
 abbrev pub merged : Counts → Counts → Counts

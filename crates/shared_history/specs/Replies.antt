@@ -28,7 +28,7 @@ use Rattle.shared_records.specs.declared.step.Kind.{Kind}
 use Rattle.shared_records.specs.declared.step.Kind.TheVariants as kind
 use Rattle.shared_history.specs.Counts.{Counts, raised}
 use Rattle.shared_records.specs.Kinds.{step_of}
-use Rattle.shared_records.specs.Letters.{Appends}
+use Rattle.shared_records.specs.Letters.{AppendsStep}
 
 module _ {T : Type 0} where
   -- how a box that was made is recorded: a shared value's with the cell that it names
@@ -56,21 +56,21 @@ module _ {T : Type 0} where
 -- the history after a call of this worker: another step, if its reply is recorded
 abbrev pub Records : List Step → ℕ → StepCall → Option StepReply → List Step → Type 0
 Records steps worker call None after = after ≡ steps
-Records steps worker call (Some r) after = Appends steps (step_of worker call r) after
+Records steps worker call (Some r) after = AppendsStep steps (step_of worker call r) after
 
 -- the kind of an answer's step, if it is one
-abbrev pub kind_in : {T : Type 0} → Answer T → Option Kind
-kind_in (Made b) = Some kind.Made
-kind_in (Owned o) = Some kind.Made
-kind_in (Reads g) = Some kind.Lent
-kind_in (Writes g v) = Some kind.Lent
-kind_in Done = Some kind.Changed
-kind_in (Old v) = Some kind.Changed
-kind_in (Flag true) = Some kind.Changed
-kind_in (BorrowRefused (Dropped l)) = Some kind.Refused
-kind_in (Refused NumbersExhausted) = Some kind.Refused
-kind_in (Refused UnknownOwner) = Some kind.Refused
-kind_in _ = None
+abbrev pub answer_kind : {T : Type 0} → Answer T → Option Kind
+answer_kind (Made b) = Some kind.Made
+answer_kind (Owned o) = Some kind.Made
+answer_kind (Reads g) = Some kind.Lent
+answer_kind (Writes g v) = Some kind.Lent
+answer_kind Done = Some kind.Changed
+answer_kind (Old v) = Some kind.Changed
+answer_kind (Flag true) = Some kind.Changed
+answer_kind (BorrowRefused (Dropped l)) = Some kind.Refused
+answer_kind (Refused NumbersExhausted) = Some kind.Refused
+answer_kind (Refused UnknownOwner) = Some kind.Refused
+answer_kind _ = None
 
 -- a tally after a step of a kind, if there is one
 abbrev pub raised_by : Option Kind → Counts → Counts

@@ -24,17 +24,17 @@ module _ {T : Type 0} where
   ends_borrow _ = false
 
   -- at a cell
-  abbrev pub borrows_of : Cell T → ℕ
-  borrows_of cell = length (tickets_of (content_of (Some cell)))
+  abbrev pub borrow_count_of : Cell T → ℕ
+  borrow_count_of cell = length (tickets_of (content_of (Some cell)))
 
   -- at these cells
-  abbrev pub borrows_in : List (Name × Cell T) → ℕ
-  borrows_in [] = 0
-  borrows_in (e ∷ es) = borrows_of e.1 + borrows_in es
+  abbrev pub borrow_count_in : List (Name × Cell T) → ℕ
+  borrow_count_in [] = 0
+  borrow_count_in (e ∷ es) = borrow_count_of e.1 + borrow_count_in es
 
   -- at all live cells
   abbrev pub borrows : State T → ℕ
-  borrows S = borrows_in (map.entries S.cells)
+  borrows S = borrow_count_in (map.entries S.cells)
 
   -- whether an answer is one that leaves all unchanged
   abbrev pub leaves : Answer T → Bool

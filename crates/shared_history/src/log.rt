@@ -3,17 +3,17 @@
 ghost use Rattle.std.specs.Prelude.{◌≡◌, ◌+◌, ◌^◌, ◌<◌, ◌≤◌, [], IfOk, IfSome, OnOk};
 ghost use Rattle.std.specs.Prelude.{OnErr, OnSome, IfNone, length};
 ghost use Rattle.std.specs.Bool.{OnFalse, OnTrue};
-ghost use Rattle.shared_history.specs.Bases.{IsCounted, Trims, all_trimmed, counts_of, new_base};
+ghost use Rattle.shared_history.specs.Bases.{IsTallied, Trims, all_trimmed, counts_of, new_base};
 ghost use Rattle.shared_history.specs.Counts.{raised};
-ghost use Rattle.shared_records.specs.Kinds.{count, step_kind, step_of};
+ghost use Rattle.shared_records.specs.Kinds.{count_of_kind, step_kind, step_of};
 ghost use Rattle.shared_records.specs.declared.step.Kind.TheVariants.{Made, Lent, Changed, Refused};
-ghost use Rattle.shared_records.specs.Letters.{Appends};
+ghost use Rattle.shared_records.specs.Letters.{AppendsStep};
 ghost use Rattle.shared_history.specs.Standing.{lent_by};
 
 use crate::base::{Base, TrimmedSteps};
 use crate::kept::KeptBase;
 use crate::tally::{Count, Tally};
-use shared_records::{Entry, Kind, OldSteps, Step, StepList, StepReply};
+use shared_records::{Kind, OldSteps, Step, StepEntry, StepList, StepReply};
 use std::alloc::{AllocError, Global};
 use std::marker::Model;
 use std::mem;
@@ -47,7 +47,7 @@ impl<const NUMBER: u64, M: Count, L: Count, C: Count, R: Count> Model for Log<NU
     ghost use Rattle.std.specs.Prelude.{◌≡◌, ◌+◌, ◌-◌, ◌≤◌};
     ghost use Rattle.std.specs.Coded.{codes};
     ghost use Rattle.std.specs.FinMap as finite;
-    ghost use Rattle.shared_records.specs.Kinds.{count};
+    ghost use Rattle.shared_records.specs.Kinds.{count_of_kind};
     ghost use Rattle.shared_history.specs.Logs.{LogState};
     ghost use Rattle.shared_records.specs.declared.step.Kind.TheVariants.{Made, Lent, Changed};
     ghost use Rattle.shared_records.specs.declared.step.Kind.TheVariants.{Refused};
@@ -63,10 +63,10 @@ impl<const NUMBER: u64, M: Count, L: Count, C: Count, R: Count> Model for Log<NU
       room = l.history.room - l.standing;
     } };
 
-    ghost invariant = { λ l. (l.made_steps ≡ count Made l.history.steps)
-        × (l.lent_steps ≡ count Lent l.history.steps)
-        × (l.changed_steps ≡ count Changed l.history.steps)
-        × (l.refused_steps ≡ count Refused l.history.steps)
+    ghost invariant = { λ l. (l.made_steps ≡ count_of_kind Made l.history.steps)
+        × (l.lent_steps ≡ count_of_kind Lent l.history.steps)
+        × (l.changed_steps ≡ count_of_kind Changed l.history.steps)
+        × (l.refused_steps ≡ count_of_kind Refused l.history.steps)
         × (l.made.total ≡ l.base.made + l.made_steps)
         × (l.lent.total ≡ l.base.lent + l.lent_steps)
         × (l.changed.total ≡ l.base.changed + l.changed_steps)
@@ -124,10 +124,10 @@ impl<const NUMBER: u64, M: Count, L: Count, C: Count, R: Count> Log<NUMBER, M, L
     // Appends a step of the tally's worker, for which there is room.
     #[tactic(auto, using(crate::proofs::Appending::one_more, crate::proofs::Appending::few, std::proofs::lemmas::Grind::common_steps))]
     #[inline(always)]
-    fn append<E: Entry>(&mut self, entry: E, tally: &mut Tally<M, L, C, R>)
+    fn append<E: StepEntry>(&mut self, entry: E, tally: &mut Tally<M, L, C, R>)
         requires room { 0 < self.old.room }
         ensures bases { self.new.bases ≡ self.old.bases }
-        ensures steps { Appends self.old.steps
+        ensures steps { AppendsStep self.old.steps
             (step_of tally.old.worker (E.as_call entry) (E.as_reply entry)) self.new.steps }
         ensures standing { self.new.standing ≡ self.old.standing }
         ensures room { self.old.room ≤ self.new.room + 1 }
@@ -157,10 +157,10 @@ impl<const NUMBER: u64, M: Count, L: Count, C: Count, R: Count> Log<NUMBER, M, L
 
     // Appends the step of the tally's worker. If it begins a borrow, that is active from then on.
     #[inline(always)]
-    pub fn settle<E: Entry>(&mut self, entry: E, tally: &mut Tally<M, L, C, R>)
+    pub fn add_step<E: StepEntry>(&mut self, entry: E, tally: &mut Tally<M, L, C, R>)
         requires room { 1 < self.old.room }
         ensures bases { self.new.bases ≡ self.old.bases }
-        ensures steps { Appends self.old.steps
+        ensures steps { AppendsStep self.old.steps
             (step_of tally.old.worker (E.as_call entry) (E.as_reply entry)) self.new.steps }
         ensures standing { self.new.standing ≡ self.old.standing + lent_by (E.as_reply entry) }
         ensures tally { tally.new ≡ raised (step_kind (E.as_reply entry)) tally.old }
@@ -175,9 +175,9 @@ impl<const NUMBER: u64, M: Count, L: Count, C: Count, R: Count> Log<NUMBER, M, L
     // the borrow began. Whether there is one is checked here, which is cheaper than a proof by each
     // caller.
     #[inline(always)]
-    pub fn settle_end<E: Entry>(&mut self, entry: E, tally: &mut Tally<M, L, C, R>)
+    pub fn add_end<E: StepEntry>(&mut self, entry: E, tally: &mut Tally<M, L, C, R>)
         ensures bases { self.new.bases ≡ self.old.bases }
-        ensures steps { 0 < self.old.standing → Appends self.old.steps
+        ensures steps { 0 < self.old.standing → AppendsStep self.old.steps
             (step_of tally.old.worker (E.as_call entry) (E.as_reply entry)) self.new.steps }
         ensures standing { 0 < self.old.standing → self.new.standing + 1 ≡ self.old.standing }
         ensures tally { 0 < self.old.standing
@@ -298,7 +298,7 @@ impl<const NUMBER: u64, M: Count, L: Count, C: Count, R: Count> Log<NUMBER, M, L
         requires { whole.old.parts ≡ M.workers }
         ensures base { IfOk result (λ r. r.0 ≡ self.old.bases.base) }
         ensures steps { IfOk result (λ r. r.1.items ≡ self.old.steps) }
-        ensures counts { IsCounted whole.old self.old.bases.base self.old.steps }
+        ensures counts { IsTallied whole.old self.old.bases.base self.old.steps }
         ensures log { self.new ≡ self.old }
         ensures tally { whole.new ≡ whole.old }
     {
@@ -326,7 +326,7 @@ impl<const NUMBER: u64, M: Count, L: Count, C: Count, R: Count> Log<NUMBER, M, L
 
 // The kind of a step.
 #[inline(always)]
-fn kind_of<E: Entry>(entry: E) -> Kind
+fn kind_of<E: StepEntry>(entry: E) -> Kind
     ensures { result ≡ step_kind (E.as_reply entry) }
 {
     entry.reply().kind()
@@ -334,7 +334,7 @@ fn kind_of<E: Entry>(entry: E) -> Kind
 
 // Whether a step begins a borrow.
 #[inline(always)]
-fn begins_borrow<E: Entry>(entry: E) -> bool
+fn begins_borrow<E: StepEntry>(entry: E) -> bool
     ensures begins { OnTrue result (lent_by (E.as_reply entry) ≡ 1) }
     ensures none { OnFalse result (lent_by (E.as_reply entry) ≡ 0) }
 {

@@ -48,5 +48,5 @@ same_kind Refused Refused = true
 same_kind k l = false
 
 -- how many of the steps are of this kind
-abbrev pub count : Kind → List Step → ℕ
-count kind steps = count_by (λ (s : Step). same_kind kind (step_kind s.reply)) steps
+abbrev pub count_of_kind : Kind → List Step → ℕ
+count_of_kind kind steps = count_by (λ (s : Step). same_kind kind (step_kind s.reply)) steps

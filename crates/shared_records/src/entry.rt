@@ -10,10 +10,10 @@ ghost use Rattle.shared_records.specs.Decoding.{AreNamed, AreShort, Extends, Sta
 ghost use Rattle.shared_records.specs.Decoding.{naming_all};
 ghost use Rattle.shared_records.specs.Kinds.{made_by, referred_by, shared_by, step_of};
 
-use crate::places::LocationTable;
+use crate::locations::LocationTable;
 use crate::short::Short;
 use crate::shorten::{
-    Names, Taken, back_to, insert, insert_rc, is_next, leak, leak_rc, leak_reference, name_one,
+    ItemNames, Taken, back_to, insert, insert_rc, is_next, leak, leak_rc, leak_reference, name_one,
     name_two, point_to, read, read_dropped, worker_of, write,
 };
 use crate::step::StepReply;
@@ -21,7 +21,7 @@ use generational_core::{GenerationalBoxId, GenerationalPointer, Location, OwnerI
 
 /// A call with its reply, in the form that the caller has. Each frequent call has its own type, so that
 /// no `StepCall` is built and destructured on its way into the list.
-pub trait Entry: Copy {
+pub trait StepEntry: Copy {
     ghost as_call: { Self → StepCall };
 
     ghost as_reply: { Self → StepReply };
@@ -33,16 +33,16 @@ pub trait Entry: Copy {
 
     /// The names of the step's cells before its item; None if one isn't of the store, a number doesn't
     /// fit, or the step has no short form.
-    fn names(self, taken: Taken) -> Option<Names>
+    fn names(self, taken: Taken) -> Option<ItemNames>
         ensures short { IfSome result AreShort }
         ensures named { IfSome result (λ names. AreNamed taken.number
             (naming_all taken.reached names) (Self.before self) (Self.last self)) };
 
     /// The step in 8 bytes, if its cells are named; None if it has no such form or a number doesn't fit.
-    fn form<P: LocationTable>(self, taken: Taken, places: &mut P) -> Option<Short>
+    fn form<P: LocationTable>(self, taken: Taken, locations: &mut P) -> Option<Short>
         requires { AreNamed taken.number taken.reached (Self.before self) (Self.last self) }
-        ensures extends { Extends (P.locations places.old) (P.locations places.new) }
-        ensures form { IfSome result (StandsFor taken.number (P.locations places.new) taken.reached
+        ensures extends { Extends (P.locations locations.old) (P.locations locations.new) }
+        ensures form { IfSome result (StandsFor taken.number (P.locations locations.new) taken.reached
             (step_of taken.worker (Self.as_call self) (Self.as_reply self))) };
 
     /// The call.
@@ -61,7 +61,7 @@ pub struct AnyEntry {
     pub reply: StepReply,
 }
 
-impl Entry for AnyEntry {
+impl StepEntry for AnyEntry {
     ghost as_call = { λ e. e.call };
 
     ghost as_reply = { λ e. e.reply };
@@ -71,12 +71,12 @@ impl Entry for AnyEntry {
     ghost before = { λ _. None };
 
     #[inline(always)]
-    fn names(self, _taken: Taken) -> Option<Names> {
+    fn names(self, _taken: Taken) -> Option<ItemNames> {
         None
     }
 
     #[inline(always)]
-    fn form<P: LocationTable>(self, _taken: Taken, _places: &mut P) -> Option<Short> {
+    fn form<P: LocationTable>(self, _taken: Taken, _locations: &mut P) -> Option<Short> {
         None
     }
 
@@ -132,7 +132,7 @@ pub struct BoxMade {
     pub made: GenerationalPointer,
 }
 
-impl Entry for BoxMade {
+impl StepEntry for BoxMade {
     ghost as_call = { λ e. made_by e.owner e.at };
 
     ghost as_reply = { λ e. reply.Made e.made };
@@ -142,15 +142,15 @@ impl Entry for BoxMade {
     ghost before = { λ _. None };
 
     #[inline(always)]
-    fn names(self, taken: Taken) -> Option<Names> {
+    fn names(self, taken: Taken) -> Option<ItemNames> {
         name_one(taken, self.made.id)
     }
 
     #[inline(always)]
-    fn form<P: LocationTable>(self, taken: Taken, places: &mut P) -> Option<Short> {
+    fn form<P: LocationTable>(self, taken: Taken, locations: &mut P) -> Option<Short> {
         match self.owner {
-            None => leak(taken, places, self.at, self.made),
-            Some(owner) => insert(taken, places, owner, self.at, self.made),
+            None => leak(taken, locations, self.at, self.made),
+            Some(owner) => insert(taken, locations, owner, self.at, self.made),
         }
     }
 
@@ -173,7 +173,7 @@ pub struct ReadBegun {
     pub ticket: u64,
 }
 
-impl Entry for ReadBegun {
+impl StepEntry for ReadBegun {
     ghost as_call = { λ e. call.Read e.asked e.at };
 
     ghost as_reply = { λ e. reply.Reader e.ticket };
@@ -183,13 +183,13 @@ impl Entry for ReadBegun {
     ghost before = { λ _. None };
 
     #[inline(always)]
-    fn names(self, taken: Taken) -> Option<Names> {
+    fn names(self, taken: Taken) -> Option<ItemNames> {
         name_one(taken, self.asked.id)
     }
 
     #[inline(always)]
-    fn form<P: LocationTable>(self, taken: Taken, places: &mut P) -> Option<Short> {
-        read(taken, places, self.asked, self.at, self.ticket)
+    fn form<P: LocationTable>(self, taken: Taken, locations: &mut P) -> Option<Short> {
+        read(taken, locations, self.asked, self.at, self.ticket)
     }
 
     #[inline(always)]
@@ -210,7 +210,7 @@ pub struct ReadDropped {
     pub at: Location,
 }
 
-impl Entry for ReadDropped {
+impl StepEntry for ReadDropped {
     ghost as_call = { λ e. call.Read e.asked e.at };
 
     ghost as_reply = { λ e. reply.Dropped e.asked.created_at };
@@ -220,13 +220,13 @@ impl Entry for ReadDropped {
     ghost before = { λ _. None };
 
     #[inline(always)]
-    fn names(self, taken: Taken) -> Option<Names> {
+    fn names(self, taken: Taken) -> Option<ItemNames> {
         name_one(taken, self.asked.id)
     }
 
     #[inline(always)]
-    fn form<P: LocationTable>(self, taken: Taken, places: &mut P) -> Option<Short> {
-        read_dropped(taken, places, self.asked, self.at)
+    fn form<P: LocationTable>(self, taken: Taken, locations: &mut P) -> Option<Short> {
+        read_dropped(taken, locations, self.asked, self.at)
     }
 
     #[inline(always)]
@@ -248,7 +248,7 @@ pub struct WriteBegun {
     pub ticket: u64,
 }
 
-impl Entry for WriteBegun {
+impl StepEntry for WriteBegun {
     ghost as_call = { λ e. call.Write e.asked e.at };
 
     ghost as_reply = { λ e. reply.Writer e.ticket };
@@ -258,13 +258,13 @@ impl Entry for WriteBegun {
     ghost before = { λ _. None };
 
     #[inline(always)]
-    fn names(self, taken: Taken) -> Option<Names> {
+    fn names(self, taken: Taken) -> Option<ItemNames> {
         name_one(taken, self.asked.id)
     }
 
     #[inline(always)]
-    fn form<P: LocationTable>(self, taken: Taken, places: &mut P) -> Option<Short> {
-        write(taken, places, self.asked, self.at, self.ticket)
+    fn form<P: LocationTable>(self, taken: Taken, locations: &mut P) -> Option<Short> {
+        write(taken, locations, self.asked, self.at, self.ticket)
     }
 
     #[inline(always)]
@@ -284,7 +284,7 @@ pub struct BoxEnded {
     pub asked: GenerationalPointer,
 }
 
-impl Entry for BoxEnded {
+impl StepEntry for BoxEnded {
     ghost as_call = { λ e. call.ManuallyDrop e.asked };
 
     ghost as_reply = { λ _. reply.Done };
@@ -294,14 +294,14 @@ impl Entry for BoxEnded {
     ghost before = { λ _. None };
 
     #[inline(always)]
-    fn names(self, taken: Taken) -> Option<Names> {
+    fn names(self, taken: Taken) -> Option<ItemNames> {
         name_one(taken, self.asked.id)
     }
 
     #[inline(always)]
-    fn form<P: LocationTable>(self, taken: Taken, places: &mut P) -> Option<Short> {
+    fn form<P: LocationTable>(self, taken: Taken, locations: &mut P) -> Option<Short> {
         let worker = worker_of(taken)?;
-        let made = places.find_or_add(self.asked.created_at)?;
+        let made = locations.find_or_add(self.asked.created_at)?;
         Some(Short::End(worker, made))
     }
 
@@ -322,7 +322,7 @@ pub struct ReadEnded {
     pub ticket: u64,
 }
 
-impl Entry for ReadEnded {
+impl StepEntry for ReadEnded {
     ghost as_call = { λ e. call.ReleaseRead e.ticket };
 
     ghost as_reply = { λ _. reply.Done };
@@ -332,12 +332,12 @@ impl Entry for ReadEnded {
     ghost before = { λ _. None };
 
     #[inline(always)]
-    fn names(self, _taken: Taken) -> Option<Names> {
-        Some(Names::None)
+    fn names(self, _taken: Taken) -> Option<ItemNames> {
+        Some(ItemNames::None)
     }
 
     #[inline(always)]
-    fn form<P: LocationTable>(self, taken: Taken, _places: &mut P) -> Option<Short> {
+    fn form<P: LocationTable>(self, taken: Taken, _locations: &mut P) -> Option<Short> {
         let worker = worker_of(taken)?;
         let back = back_to(taken, self.ticket)?;
         Some(Short::ReleaseRead(worker, back))
@@ -360,7 +360,7 @@ pub struct WriteEnded {
     pub ticket: u64,
 }
 
-impl Entry for WriteEnded {
+impl StepEntry for WriteEnded {
     ghost as_call = { λ e. call.ReleaseWrite e.ticket };
 
     ghost as_reply = { λ _. reply.Done };
@@ -370,12 +370,12 @@ impl Entry for WriteEnded {
     ghost before = { λ _. None };
 
     #[inline(always)]
-    fn names(self, _taken: Taken) -> Option<Names> {
-        Some(Names::None)
+    fn names(self, _taken: Taken) -> Option<ItemNames> {
+        Some(ItemNames::None)
     }
 
     #[inline(always)]
-    fn form<P: LocationTable>(self, taken: Taken, _places: &mut P) -> Option<Short> {
+    fn form<P: LocationTable>(self, taken: Taken, _locations: &mut P) -> Option<Short> {
         let worker = worker_of(taken)?;
         let back = back_to(taken, self.ticket)?;
         Some(Short::ReleaseWrite(worker, back))
@@ -402,7 +402,7 @@ pub struct SharedMade {
     pub made: GenerationalPointer,
 }
 
-impl Entry for SharedMade {
+impl StepEntry for SharedMade {
     ghost as_call = { λ e. shared_by e.owner e.at };
 
     ghost as_reply = { λ e. reply.MadeShared e.cell e.made };
@@ -412,15 +412,15 @@ impl Entry for SharedMade {
     ghost before = { λ e. Some e.cell };
 
     #[inline(always)]
-    fn names(self, taken: Taken) -> Option<Names> {
+    fn names(self, taken: Taken) -> Option<ItemNames> {
         name_two(taken, self.cell, self.made.id)
     }
 
     #[inline(always)]
-    fn form<P: LocationTable>(self, taken: Taken, places: &mut P) -> Option<Short> {
+    fn form<P: LocationTable>(self, taken: Taken, locations: &mut P) -> Option<Short> {
         match self.owner {
-            None => leak_rc(taken, places, self.at, self.cell, self.made),
-            Some(owner) => insert_rc(taken, places, owner, self.at, self.cell, self.made),
+            None => leak_rc(taken, locations, self.at, self.cell, self.made),
+            Some(owner) => insert_rc(taken, locations, owner, self.at, self.cell, self.made),
         }
     }
 
@@ -443,7 +443,7 @@ pub struct ReferenceMade {
     pub made: GenerationalPointer,
 }
 
-impl Entry for ReferenceMade {
+impl StepEntry for ReferenceMade {
     ghost as_call = { λ e. referred_by e.owner e.asked };
 
     ghost as_reply = { λ e. reply.Made e.made };
@@ -453,7 +453,7 @@ impl Entry for ReferenceMade {
     ghost before = { λ e. Some e.asked.id };
 
     #[inline(always)]
-    fn names(self, taken: Taken) -> Option<Names> {
+    fn names(self, taken: Taken) -> Option<ItemNames> {
         match self.owner {
             None => name_two(taken, self.asked.id, self.made.id),
             Some(_) => None,
@@ -461,9 +461,9 @@ impl Entry for ReferenceMade {
     }
 
     #[inline(always)]
-    fn form<P: LocationTable>(self, taken: Taken, places: &mut P) -> Option<Short> {
+    fn form<P: LocationTable>(self, taken: Taken, locations: &mut P) -> Option<Short> {
         match self.owner {
-            None => leak_reference(taken, places, self.asked, self.made),
+            None => leak_reference(taken, locations, self.asked, self.made),
             Some(_) => None,
         }
     }
@@ -485,7 +485,7 @@ pub struct OwnerMade {
     pub owner: OwnerId,
 }
 
-impl Entry for OwnerMade {
+impl StepEntry for OwnerMade {
     ghost as_call = { λ _. call.Owner };
 
     ghost as_reply = { λ e. reply.Owner e.owner };
@@ -495,12 +495,12 @@ impl Entry for OwnerMade {
     ghost before = { λ _. None };
 
     #[inline(always)]
-    fn names(self, _taken: Taken) -> Option<Names> {
-        Some(Names::None)
+    fn names(self, _taken: Taken) -> Option<ItemNames> {
+        Some(ItemNames::None)
     }
 
     #[inline(always)]
-    fn form<P: LocationTable>(self, taken: Taken, _places: &mut P) -> Option<Short> {
+    fn form<P: LocationTable>(self, taken: Taken, _locations: &mut P) -> Option<Short> {
         if self.owner.store != taken.number || !is_next(taken, self.owner.key) {
             return None;
         }
@@ -524,7 +524,7 @@ pub struct ValueSet {
     pub asked: GenerationalPointer,
 }
 
-impl Entry for ValueSet {
+impl StepEntry for ValueSet {
     ghost as_call = { λ e. call.Set e.asked };
 
     ghost as_reply = { λ _. reply.Done };
@@ -534,14 +534,14 @@ impl Entry for ValueSet {
     ghost before = { λ _. None };
 
     #[inline(always)]
-    fn names(self, taken: Taken) -> Option<Names> {
+    fn names(self, taken: Taken) -> Option<ItemNames> {
         name_one(taken, self.asked.id)
     }
 
     #[inline(always)]
-    fn form<P: LocationTable>(self, taken: Taken, places: &mut P) -> Option<Short> {
+    fn form<P: LocationTable>(self, taken: Taken, locations: &mut P) -> Option<Short> {
         let worker = worker_of(taken)?;
-        let made = places.find_or_add(self.asked.created_at)?;
+        let made = locations.find_or_add(self.asked.created_at)?;
         Some(Short::Set(worker, made))
     }
 
@@ -563,7 +563,7 @@ pub struct BoxPointed {
     pub other: GenerationalPointer,
 }
 
-impl Entry for BoxPointed {
+impl StepEntry for BoxPointed {
     ghost as_call = { λ e. call.PointTo e.asked e.other };
 
     ghost as_reply = { λ _. reply.Done };
@@ -573,13 +573,13 @@ impl Entry for BoxPointed {
     ghost before = { λ e. Some e.other.id };
 
     #[inline(always)]
-    fn names(self, taken: Taken) -> Option<Names> {
+    fn names(self, taken: Taken) -> Option<ItemNames> {
         name_two(taken, self.other.id, self.asked.id)
     }
 
     #[inline(always)]
-    fn form<P: LocationTable>(self, taken: Taken, places: &mut P) -> Option<Short> {
-        point_to(taken, places, self.asked, self.other)
+    fn form<P: LocationTable>(self, taken: Taken, locations: &mut P) -> Option<Short> {
+        point_to(taken, locations, self.asked, self.other)
     }
 
     #[inline(always)]
@@ -599,7 +599,7 @@ pub struct OwnerEnded {
     pub owner: OwnerId,
 }
 
-impl Entry for OwnerEnded {
+impl StepEntry for OwnerEnded {
     ghost as_call = { λ e. call.ReleaseOwner e.owner };
 
     ghost as_reply = { λ _. reply.Done };
@@ -609,12 +609,12 @@ impl Entry for OwnerEnded {
     ghost before = { λ _. None };
 
     #[inline(always)]
-    fn names(self, _taken: Taken) -> Option<Names> {
-        Some(Names::None)
+    fn names(self, _taken: Taken) -> Option<ItemNames> {
+        Some(ItemNames::None)
     }
 
     #[inline(always)]
-    fn form<P: LocationTable>(self, taken: Taken, _places: &mut P) -> Option<Short> {
+    fn form<P: LocationTable>(self, taken: Taken, _locations: &mut P) -> Option<Short> {
         if self.owner.store != taken.number {
             return None;
         }

@@ -6,15 +6,15 @@
 #![tactic(auto)]
 
 mod entry;
-mod places;
+mod locations;
 mod short;
 mod shorten;
 mod step;
 mod step_list;
 
 pub use crate::entry::{
-    AnyEntry, BoxEnded, BoxMade, BoxPointed, Entry, OwnerEnded, OwnerMade, ReadBegun, ReadDropped,
-    ReadEnded, ReferenceMade, SharedMade, ValueSet, WriteBegun, WriteEnded, making,
+    AnyEntry, BoxEnded, BoxMade, BoxPointed, OwnerEnded, OwnerMade, ReadBegun, ReadDropped,
+    ReadEnded, ReferenceMade, SharedMade, StepEntry, ValueSet, WriteBegun, WriteEnded, making,
     making_reference, making_shared,
 };
 pub use crate::step::{Kind, Step, StepReply};

@@ -1,9 +1,9 @@
 //! Steps in 8 bytes, and the steps that they represent.
 
 ghost use Rattle.std.specs.Prelude.{◌≡◌, ◌<◌, ◌++◌, OnOk, length, option_to_list};
-ghost use Rattle.shared_records.specs.Decoding.{AreOwn, AreWithin, IsPlain, IsWithin, advanced, box_at};
-ghost use Rattle.shared_records.specs.Decoding.{decode, plain_step, tables};
-ghost use Rattle.shared_records.specs.Decoding.{name_item, named, naming, next_after, owner_id};
+ghost use Rattle.shared_records.specs.Decoding.{AreOwn, AreItemsWithin, HasLocationsWithin, IsItemWithin, advanced, pointer_made_at};
+ghost use Rattle.shared_records.specs.Decoding.{decode, item_step, tables};
+ghost use Rattle.shared_records.specs.Decoding.{name_item, reached_named, naming, next_after, owner_id};
 ghost use Rattle.shared_records.specs.Decoding.{reached_first, step_at};
 ghost use Rattle.shared_records.specs.Kinds.{step_of};
 
@@ -161,62 +161,62 @@ pub(crate) fn step(worker: u32, call: StepCall, reply: StepReply) -> Step
 /// The step that an item represents, in this state of decoding; None for a name.
 pub fn step_at(
     number: u64,
-    places: &[Location],
+    locations: &[Location],
     long: &[Step],
     far: &[FarStep],
     reached: Reached,
     short: Short,
 ) -> Option<Step>
-    requires within { IsWithin (tables places.now long.now far.now) short }
+    requires within { IsItemWithin (tables locations.now long.now far.now) short }
     requires own { AreOwn far.now }
-    ensures { result ≡ step_at number (tables places.now long.now far.now) reached short }
+    ensures { result ≡ step_at number (tables locations.now long.now far.now) reached short }
 {
     match short {
         Short::Long(high, low) => Some(long[(high as usize) * 4294967296 + low as usize]),
         Short::Far(high, low) => {
             let step = far[(high as usize) * 4294967296 + low as usize];
             let own = [step.first, step.second];
-            plain_step(number, &own, reached, step.short)
+            item_step(number, &own, reached, step.short)
         }
-        _ => plain_step(number, places, reached, short),
+        _ => item_step(number, locations, reached, short),
     }
 }
 
 // The step that an item represents if the step isn't stored elsewhere; None otherwise.
-fn plain_step(number: u64, places: &[Location], reached: Reached, short: Short) -> Option<Step>
-    requires { IsPlain (length places.now) short }
-    ensures { result ≡ plain_step number places.now reached short }
+fn item_step(number: u64, locations: &[Location], reached: Reached, short: Short) -> Option<Step>
+    requires { HasLocationsWithin (length locations.now) short }
+    ensures { result ≡ item_step number locations.now reached short }
 {
     let Reached { next, last, before } = reached;
     match short {
         Short::Name(_, _, _) | Short::Long(_, _) | Short::Far(_, _) => None,
-        Short::Leak(worker, place) => {
-            let call = StepCall::Leak(places[place as usize]);
-            let made = box_at(number, places, place, last);
+        Short::Leak(worker, there) => {
+            let call = StepCall::Leak(locations[there as usize]);
+            let made = pointer_made_at(number, locations, there, last);
             Some(step(worker as u32, call, StepReply::Made(made)))
         }
-        Short::Insert(worker, place, back) => {
+        Short::Insert(worker, there, back) => {
             let owner = owner_id(number, next.saturating_sub(back as u64));
-            let call = StepCall::Insert(owner, places[place as usize]);
-            let made = box_at(number, places, place, last);
+            let call = StepCall::Insert(owner, locations[there as usize]);
+            let made = pointer_made_at(number, locations, there, last);
             Some(step(worker as u32, call, StepReply::Made(made)))
         }
-        Short::LeakRc(worker, place) => {
-            let call = StepCall::LeakRc(places[place as usize]);
+        Short::LeakRc(worker, there) => {
+            let call = StepCall::LeakRc(locations[there as usize]);
             let cell = id_at(number, before.slot as usize, before.generation as u64);
-            let made = box_at(number, places, place, last);
+            let made = pointer_made_at(number, locations, there, last);
             Some(step(worker as u32, call, StepReply::MadeShared(cell, made)))
         }
-        Short::InsertRc(worker, place, back) => {
+        Short::InsertRc(worker, there, back) => {
             let owner = owner_id(number, next.saturating_sub(back as u64));
-            let call = StepCall::InsertRc(owner, places[place as usize]);
+            let call = StepCall::InsertRc(owner, locations[there as usize]);
             let cell = id_at(number, before.slot as usize, before.generation as u64);
-            let made = box_at(number, places, place, last);
+            let made = pointer_made_at(number, locations, there, last);
             Some(step(worker as u32, call, StepReply::MadeShared(cell, made)))
         }
-        Short::LeakReference(worker, asked, place) => {
-            let call = StepCall::LeakReference(box_at(number, places, asked, before));
-            let made = box_at(number, places, place, last);
+        Short::LeakReference(worker, asked, there) => {
+            let call = StepCall::LeakReference(pointer_made_at(number, locations, asked, before));
+            let made = pointer_made_at(number, locations, there, last);
             Some(step(worker as u32, call, StepReply::Made(made)))
         }
         Short::Owner(worker) => {
@@ -229,31 +229,31 @@ fn plain_step(number: u64, places: &[Location], reached: Reached, short: Short) 
             Some(step(worker as u32, call, StepReply::Done))
         }
         Short::Read(worker, made, read) => {
-            let asked = box_at(number, places, made, last);
-            let call = StepCall::Read(asked, places[read as usize]);
+            let asked = pointer_made_at(number, locations, made, last);
+            let call = StepCall::Read(asked, locations[read as usize]);
             Some(step(worker as u32, call, StepReply::Reader(next)))
         }
         Short::Write(worker, made, written) => {
-            let asked = box_at(number, places, made, last);
-            let call = StepCall::Write(asked, places[written as usize]);
+            let asked = pointer_made_at(number, locations, made, last);
+            let call = StepCall::Write(asked, locations[written as usize]);
             Some(step(worker as u32, call, StepReply::Writer(next)))
         }
         Short::ReadDropped(worker, made, read) => {
-            let asked = box_at(number, places, made, last);
-            let call = StepCall::Read(asked, places[read as usize]);
+            let asked = pointer_made_at(number, locations, made, last);
+            let call = StepCall::Read(asked, locations[read as usize]);
             Some(step(worker as u32, call, StepReply::Dropped(asked.created_at)))
         }
         Short::Set(worker, made) => {
-            let call = StepCall::Set(box_at(number, places, made, last));
+            let call = StepCall::Set(pointer_made_at(number, locations, made, last));
             Some(step(worker as u32, call, StepReply::Done))
         }
         Short::End(worker, made) => {
-            let call = StepCall::ManuallyDrop(box_at(number, places, made, last));
+            let call = StepCall::ManuallyDrop(pointer_made_at(number, locations, made, last));
             Some(step(worker as u32, call, StepReply::Done))
         }
         Short::PointTo(worker, made, target) => {
-            let asked = box_at(number, places, made, last);
-            let other = box_at(number, places, target, before);
+            let asked = pointer_made_at(number, locations, made, last);
+            let other = pointer_made_at(number, locations, target, before);
             let call = StepCall::PointTo(asked, other);
             Some(step(worker as u32, call, StepReply::Done))
         }
@@ -269,15 +269,20 @@ fn plain_step(number: u64, places: &[Location], reached: Reached, short: Short) 
 }
 
 // The box of a cell that was made at the location with this number.
-fn box_at(number: u64, places: &[Location], place: u16, name: ShortName) -> GenerationalPointer
-    requires { place < length places.now }
-    ensures { result ≡ box_at number places.now place name }
+fn pointer_made_at(
+    number: u64,
+    locations: &[Location],
+    there: u16,
+    name: ShortName,
+) -> GenerationalPointer
+    requires { there < length locations.now }
+    ensures { result ≡ pointer_made_at number locations.now there name }
 {
     pointer_at(
         number,
         name.slot as usize,
         name.generation as u64,
-        places[place as usize],
+        locations[there as usize],
     )
 }
 
@@ -306,7 +311,7 @@ fn next_after(next: u64, reply: StepReply) -> u64
 
 // The state of decoding after an item, and after the step that it represents, if any.
 fn go_on(reached: Reached, short: Short, step: Option<Step>) -> Reached
-    ensures { result ≡ advanced (named reached short) step }
+    ensures { result ≡ advanced (reached_named reached short) step }
 {
     let reached = match short {
         Short::Name(high, low, generation) => reached.naming(ShortName {
@@ -335,20 +340,20 @@ fn push_some(all: &mut Vec<Step>, step: Option<Step>) -> Result<(), AllocError>
 pub fn decode_all(
     all: &mut Vec<Step>,
     number: u64,
-    places: &[Location],
+    locations: &[Location],
     long: &[Step],
     far: &[FarStep],
     start: Reached,
     short: &[Short],
 ) -> Result<(), AllocError>
-    requires within { AreWithin (tables places.now long.now far.now) short.now }
+    requires within { AreItemsWithin (tables locations.now long.now far.now) short.now }
     requires own { AreOwn far.now }
     ensures { OnOk result (all.new.items ≡ all.old.items
-        ++ decode number (tables places.now long.now far.now) start short.now) }
+        ++ decode number (tables locations.now long.now far.now) start short.now) }
 {
     let mut reached = start;
     for item in short.iter() {
-        let step = step_at(number, places, long, far, reached, *item);
+        let step = step_at(number, locations, long, far, reached, *item);
         reached = go_on(reached, *item, step);
         push_some(all, step)?;
     }

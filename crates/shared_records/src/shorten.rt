@@ -5,12 +5,12 @@ ghost use Rattle.std.specs.Bool.{OnTrue};
 ghost use Rattle.generational_core.specs.declared.steps.StepCall.TheVariants as call;
 ghost use Rattle.generational_core.specs.Boxes.{id_of};
 ghost use Rattle.shared_records.specs.declared.step.StepReply.TheVariants as reply;
-ghost use Rattle.shared_records.specs.Decoding.{AreNamed, AreShort, Extends, IsAt, StandsFor};
-ghost use Rattle.shared_records.specs.Decoding.{full, naming_all, own_places, owner_id};
+ghost use Rattle.shared_records.specs.Decoding.{AreNamed, AreShort, Extends, IsNumberOf, StandsFor};
+ghost use Rattle.shared_records.specs.Decoding.{full, naming_all, own_locations, owner_id};
 ghost use Rattle.shared_records.specs.Kinds.{step_of};
 
-use crate::entry::Entry;
-use crate::places::{LocationTable, OwnPlaces, is_same};
+use crate::entry::StepEntry;
+use crate::locations::{LocationTable, OwnLocations, is_same};
 use crate::short::{FarStep, Reached, Short, ShortName};
 use generational_core::{GenerationalBoxId, GenerationalPointer, Location, OwnerId};
 
@@ -24,7 +24,7 @@ pub struct Taken {
 
 /// The names before a step's item, in order.
 #[derive(Clone, Copy)]
-pub enum Names {
+pub enum ItemNames {
     None,
     One(ShortName),
     Two(ShortName, ShortName),
@@ -33,14 +33,14 @@ pub enum Names {
 /// A step with its own table of locations, if it has a form then, and the names of its cells before it.
 #[cold]
 #[inline(never)]
-pub fn far_form<E: Entry>(taken: Taken, entry: E) -> Option<FarStep>
-    ensures { IfSome result (λ f. StandsFor taken.number (own_places f) taken.reached
+pub fn far_form<E: StepEntry>(taken: Taken, entry: E) -> Option<FarStep>
+    ensures { IfSome result (λ f. StandsFor taken.number (own_locations f) taken.reached
         (step_of taken.worker (E.as_call entry) (E.as_reply entry)) f.short) }
 {
-    let Some(Names::None) = entry.names(taken) else {
+    let Some(ItemNames::None) = entry.names(taken) else {
         return None;
     };
-    let mut own = OwnPlaces {
+    let mut own = OwnLocations {
         first: None,
         second: None,
     };
@@ -80,29 +80,33 @@ fn is_last(taken: Taken, id: GenerationalBoxId) -> bool
 
 /// The name that makes the cell with this id the last one, if it fits. Mostly it is that already.
 #[inline(always)]
-pub fn name_one(taken: Taken, id: GenerationalBoxId) -> Option<Names>
+pub fn name_one(taken: Taken, id: GenerationalBoxId) -> Option<ItemNames>
     ensures short { IfSome result AreShort }
     ensures named { IfSome result
         (λ names. AreNamed taken.number (naming_all taken.reached names) None (Some id)) }
 {
     if is_last(taken, id) {
-        return Some(Names::None);
+        return Some(ItemNames::None);
     }
-    Some(Names::One(short_name(taken, id)?))
+    Some(ItemNames::One(short_name(taken, id)?))
 }
 
 /// The names that make two cells the last one and the one before it, if they fit.
 #[inline(always)]
-pub fn name_two(taken: Taken, before: GenerationalBoxId, last: GenerationalBoxId) -> Option<Names>
+pub fn name_two(
+    taken: Taken,
+    before: GenerationalBoxId,
+    last: GenerationalBoxId,
+) -> Option<ItemNames>
     ensures short { IfSome result AreShort }
     ensures named { IfSome result
         (λ names. AreNamed taken.number (naming_all taken.reached names) (Some before) (Some last)) }
 {
     let second = short_name(taken, last)?;
     if is_last(taken, before) {
-        return Some(Names::One(second));
+        return Some(ItemNames::One(second));
     }
-    Some(Names::Two(short_name(taken, before)?, second))
+    Some(ItemNames::Two(short_name(taken, before)?, second))
 }
 
 /// The worker's number, if it fits.
@@ -116,34 +120,34 @@ pub fn worker_of(taken: Taken) -> Option<u16>
 #[inline(always)]
 pub fn leak<P: LocationTable>(
     taken: Taken,
-    places: &mut P,
+    locations: &mut P,
     at: Location,
     made: GenerationalPointer,
 ) -> Option<Short>
     requires { made.id ≡ id_of taken.number (full taken.reached.last) }
-    ensures extends { Extends (P.locations places.old) (P.locations places.new) }
-    ensures form { IfSome result (StandsFor taken.number (P.locations places.new) taken.reached
+    ensures extends { Extends (P.locations locations.old) (P.locations locations.new) }
+    ensures form { IfSome result (StandsFor taken.number (P.locations locations.new) taken.reached
         (step_of taken.worker (call.Leak at) (reply.Made made))) }
 {
     if !is_same(made.created_at, at) {
         return None;
     }
     let worker = worker_of(taken)?;
-    let place = places.find_or_add(at)?;
-    Some(Short::Leak(worker, place))
+    let there = locations.find_or_add(at)?;
+    Some(Short::Leak(worker, there))
 }
 
 #[inline(always)]
 pub fn insert<P: LocationTable>(
     taken: Taken,
-    places: &mut P,
+    locations: &mut P,
     owner: OwnerId,
     at: Location,
     made: GenerationalPointer,
 ) -> Option<Short>
     requires { made.id ≡ id_of taken.number (full taken.reached.last) }
-    ensures extends { Extends (P.locations places.old) (P.locations places.new) }
-    ensures form { IfSome result (StandsFor taken.number (P.locations places.new) taken.reached
+    ensures extends { Extends (P.locations locations.old) (P.locations locations.new) }
+    ensures form { IfSome result (StandsFor taken.number (P.locations locations.new) taken.reached
         (step_of taken.worker (call.Insert owner at) (reply.Made made))) }
 {
     if !is_same(made.created_at, at) {
@@ -151,102 +155,102 @@ pub fn insert<P: LocationTable>(
     }
     let worker = worker_of(taken)?;
     let back = back_to_owner(taken, owner)?;
-    let place = places.find_or_add(at)?;
-    Some(Short::Insert(worker, place, back))
+    let there = locations.find_or_add(at)?;
+    Some(Short::Insert(worker, there, back))
 }
 
 #[inline(always)]
 pub fn read<P: LocationTable>(
     taken: Taken,
-    places: &mut P,
+    locations: &mut P,
     asked: GenerationalPointer,
     at: Location,
     ticket: u64,
 ) -> Option<Short>
     requires { asked.id ≡ id_of taken.number (full taken.reached.last) }
-    ensures extends { Extends (P.locations places.old) (P.locations places.new) }
-    ensures form { IfSome result (StandsFor taken.number (P.locations places.new) taken.reached
+    ensures extends { Extends (P.locations locations.old) (P.locations locations.new) }
+    ensures form { IfSome result (StandsFor taken.number (P.locations locations.new) taken.reached
         (step_of taken.worker (call.Read asked at) (reply.Reader ticket))) }
 {
     if !is_next(taken, ticket) {
         return None;
     }
     let worker = worker_of(taken)?;
-    let (made, there) = find_two(places, asked.created_at, at)?;
+    let (made, there) = find_two(locations, asked.created_at, at)?;
     Some(Short::Read(worker, made, there))
 }
 
 #[inline(always)]
 pub fn write<P: LocationTable>(
     taken: Taken,
-    places: &mut P,
+    locations: &mut P,
     asked: GenerationalPointer,
     at: Location,
     ticket: u64,
 ) -> Option<Short>
     requires { asked.id ≡ id_of taken.number (full taken.reached.last) }
-    ensures extends { Extends (P.locations places.old) (P.locations places.new) }
-    ensures form { IfSome result (StandsFor taken.number (P.locations places.new) taken.reached
+    ensures extends { Extends (P.locations locations.old) (P.locations locations.new) }
+    ensures form { IfSome result (StandsFor taken.number (P.locations locations.new) taken.reached
         (step_of taken.worker (call.Write asked at) (reply.Writer ticket))) }
 {
     if !is_next(taken, ticket) {
         return None;
     }
     let worker = worker_of(taken)?;
-    let (made, there) = find_two(places, asked.created_at, at)?;
+    let (made, there) = find_two(locations, asked.created_at, at)?;
     Some(Short::Write(worker, made, there))
 }
 
 #[inline(always)]
 pub fn read_dropped<P: LocationTable>(
     taken: Taken,
-    places: &mut P,
+    locations: &mut P,
     asked: GenerationalPointer,
     at: Location,
 ) -> Option<Short>
     requires { asked.id ≡ id_of taken.number (full taken.reached.last) }
-    ensures extends { Extends (P.locations places.old) (P.locations places.new) }
-    ensures form { IfSome result (StandsFor taken.number (P.locations places.new) taken.reached
+    ensures extends { Extends (P.locations locations.old) (P.locations locations.new) }
+    ensures form { IfSome result (StandsFor taken.number (P.locations locations.new) taken.reached
         (step_of taken.worker (call.Read asked at) (reply.Dropped asked.created_at))) }
 {
     let worker = worker_of(taken)?;
-    let (made, there) = find_two(places, asked.created_at, at)?;
+    let (made, there) = find_two(locations, asked.created_at, at)?;
     Some(Short::ReadDropped(worker, made, there))
 }
 
 #[inline(always)]
 pub fn leak_rc<P: LocationTable>(
     taken: Taken,
-    places: &mut P,
+    locations: &mut P,
     at: Location,
     cell: GenerationalBoxId,
     made: GenerationalPointer,
 ) -> Option<Short>
     requires { AreNamed taken.number taken.reached (Some cell) (Some made.id) }
-    ensures extends { Extends (P.locations places.old) (P.locations places.new) }
-    ensures form { IfSome result (StandsFor taken.number (P.locations places.new) taken.reached
+    ensures extends { Extends (P.locations locations.old) (P.locations locations.new) }
+    ensures form { IfSome result (StandsFor taken.number (P.locations locations.new) taken.reached
         (step_of taken.worker (call.LeakRc at) (reply.MadeShared cell made))) }
 {
     if !is_same(made.created_at, at) {
         return None;
     }
     let worker = worker_of(taken)?;
-    let place = places.find_or_add(at)?;
-    Some(Short::LeakRc(worker, place))
+    let there = locations.find_or_add(at)?;
+    Some(Short::LeakRc(worker, there))
 }
 
 #[inline(always)]
 pub fn insert_rc<P: LocationTable>(
     taken: Taken,
-    places: &mut P,
+    locations: &mut P,
     owner: OwnerId,
     at: Location,
     cell: GenerationalBoxId,
     made: GenerationalPointer,
 ) -> Option<Short>
     requires { AreNamed taken.number taken.reached (Some cell) (Some made.id) }
-    ensures extends { Extends (P.locations places.old) (P.locations places.new) }
-    ensures form { IfSome result (StandsFor taken.number (P.locations places.new) taken.reached
+    ensures extends { Extends (P.locations locations.old) (P.locations locations.new) }
+    ensures form { IfSome result (StandsFor taken.number (P.locations locations.new) taken.reached
         (step_of taken.worker (call.InsertRc owner at) (reply.MadeShared cell made))) }
 {
     if !is_same(made.created_at, at) {
@@ -254,41 +258,41 @@ pub fn insert_rc<P: LocationTable>(
     }
     let worker = worker_of(taken)?;
     let back = back_to_owner(taken, owner)?;
-    let place = places.find_or_add(at)?;
-    Some(Short::InsertRc(worker, place, back))
+    let there = locations.find_or_add(at)?;
+    Some(Short::InsertRc(worker, there, back))
 }
 
 #[inline(always)]
 pub fn leak_reference<P: LocationTable>(
     taken: Taken,
-    places: &mut P,
+    locations: &mut P,
     asked: GenerationalPointer,
     made: GenerationalPointer,
 ) -> Option<Short>
     requires { AreNamed taken.number taken.reached (Some asked.id) (Some made.id) }
-    ensures extends { Extends (P.locations places.old) (P.locations places.new) }
-    ensures form { IfSome result (StandsFor taken.number (P.locations places.new) taken.reached
+    ensures extends { Extends (P.locations locations.old) (P.locations locations.new) }
+    ensures form { IfSome result (StandsFor taken.number (P.locations locations.new) taken.reached
         (step_of taken.worker (call.LeakReference asked) (reply.Made made))) }
 {
     let worker = worker_of(taken)?;
-    let (at, place) = find_two(places, asked.created_at, made.created_at)?;
-    Some(Short::LeakReference(worker, at, place))
+    let (at, there) = find_two(locations, asked.created_at, made.created_at)?;
+    Some(Short::LeakReference(worker, at, there))
 }
 
 #[inline(always)]
 pub fn point_to<P: LocationTable>(
     taken: Taken,
-    places: &mut P,
+    locations: &mut P,
     asked: GenerationalPointer,
     other: GenerationalPointer,
 ) -> Option<Short>
     requires { AreNamed taken.number taken.reached (Some other.id) (Some asked.id) }
-    ensures extends { Extends (P.locations places.old) (P.locations places.new) }
-    ensures form { IfSome result (StandsFor taken.number (P.locations places.new) taken.reached
+    ensures extends { Extends (P.locations locations.old) (P.locations locations.new) }
+    ensures form { IfSome result (StandsFor taken.number (P.locations locations.new) taken.reached
         (step_of taken.worker (call.PointTo asked other) (reply.Done))) }
 {
     let worker = worker_of(taken)?;
-    let (made, target) = find_two(places, asked.created_at, other.created_at)?;
+    let (made, target) = find_two(locations, asked.created_at, other.created_at)?;
     Some(Short::PointTo(worker, made, target))
 }
 
@@ -311,13 +315,13 @@ pub fn back_to(taken: Taken, ticket: u64) -> Option<u32>
 
 // The numbers of two locations.
 #[inline(always)]
-fn find_two<P: LocationTable>(places: &mut P, one: Location, two: Location) -> Option<(u16, u16)>
-    ensures extends { Extends (P.locations places.old) (P.locations places.new) }
-    ensures found { IfSome result (λ r. IsAt (P.locations places.new) r.0 one
-        × IsAt (P.locations places.new) r.1 two) }
+fn find_two<P: LocationTable>(locations: &mut P, one: Location, two: Location) -> Option<(u16, u16)>
+    ensures extends { Extends (P.locations locations.old) (P.locations locations.new) }
+    ensures found { IfSome result (λ r. IsNumberOf (P.locations locations.new) r.0 one
+        × IsNumberOf (P.locations locations.new) r.1 two) }
 {
-    let first = places.find_or_add(one)?;
-    let second = places.find_or_add(two)?;
+    let first = locations.find_or_add(one)?;
+    let second = locations.find_or_add(two)?;
     Some((first, second))
 }
 

@@ -2,18 +2,18 @@
 
 ghost use Rattle.std.specs.Prelude.{◌≡◌, ◌+◌, ◌<◌, ◌≤◌, ◌^◌, [], ◌∷◌, ◌++◌, IfOk, OnOk, OnErr};
 ghost use Rattle.std.specs.Prelude.{IfSome, length};
-ghost use Rattle.shared_records.specs.Decoding.{AreOwn, AreShort, AreWithin, Extends, IsApart, IsNaming};
+ghost use Rattle.shared_records.specs.Decoding.{AreOwn, AreShort, AreItemsWithin, Extends, IsApart, IsNaming};
 ghost use Rattle.shared_records.specs.Decoding.{StandsFor, decode, name_items};
 ghost use Rattle.shared_records.specs.Decoding.{naming_all, next_after, reached_by, reached_first, tables};
 ghost use Rattle.shared_records.specs.declared.short.Short.{Short};
-ghost use Rattle.shared_records.specs.declared.shorten.Names.TheVariants as names;
+ghost use Rattle.shared_records.specs.declared.shorten.ItemNames.TheVariants as names;
 ghost use Rattle.shared_records.specs.Kinds.{step_of};
-ghost use Rattle.shared_records.specs.Letters.{Appends};
+ghost use Rattle.shared_records.specs.Letters.{AppendsStep};
 
-use crate::entry::Entry;
-use crate::places::Places;
+use crate::entry::StepEntry;
+use crate::locations::NumberedLocations;
 use crate::short::{FarStep, Reached, Short, ShortName, decode_all, step};
-use crate::shorten::{Names, Taken, far_form};
+use crate::shorten::{ItemNames, Taken, far_form};
 use crate::step::{Step, StepReply};
 use generational_core::StepCall;
 use shared_chunks::Chunks;
@@ -22,7 +22,7 @@ use std::marker::Model;
 use std::mem;
 
 // The most locations with which the next history begins: half of those that can be numbered.
-const MANY_PLACES: usize = 32768;
+const MANY_LOCATIONS: usize = 32768;
 
 // The most long steps, and the most far ones: as many as their items can number.
 const MOST_LONG: usize = 281474976710656;
@@ -43,7 +43,7 @@ pub struct StepList<const NUMBER: u64> {
     short: Chunks<Short>,
     // the next ticket at the first step
     start: u64,
-    places: Places,
+    locations: NumberedLocations,
     long: Chunks<Step>,
     far: Chunks<FarStep>,
     alloc: Global,
@@ -51,22 +51,22 @@ pub struct StepList<const NUMBER: u64> {
 
 impl<const NUMBER: u64> Model for StepList<NUMBER> {
     ghost use Rattle.std.specs.Prelude.{◌≡◌, ◌+◌, ◌≤◌, ◌^◌, length};
-    ghost use Rattle.shared_records.specs.Decoding.{AreOwn, AreWithin, decode, reached_by, reached_first};
+    ghost use Rattle.shared_records.specs.Decoding.{AreOwn, AreItemsWithin, decode, reached_by, reached_first};
     ghost use Rattle.shared_records.specs.Decoding.{tables};
     ghost use Rattle.shared_records.specs.Lists.{StepsState};
 
     ghost Value = { StepsState };
 
     ghost view = { λ l. record {
-      steps = decode NUMBER (tables l.places l.long.items l.far.items)
+      steps = decode NUMBER (tables l.locations l.long.items l.far.items)
           (reached_first l.start) l.short.items;
       room = l.room;
     } };
 
     ghost invariant = { λ l.
-        (AreWithin (tables l.places l.long.items l.far.items) l.short.items)
+        (AreItemsWithin (tables l.locations l.long.items l.far.items) l.short.items)
         × (AreOwn l.far.items)
-        × (l.reached ≡ reached_by NUMBER (tables l.places l.long.items l.far.items)
+        × (l.reached ≡ reached_by NUMBER (tables l.locations l.long.items l.far.items)
         (reached_first l.start) l.short.items)
         × (l.room + l.room + l.room ≤ l.short.room)
         × (l.room ≤ l.long.room) × (length l.long.items + l.room ≤ 2 ^ 48)
@@ -83,7 +83,7 @@ impl<const NUMBER: u64> StepList<NUMBER> {
             room: 0,
             start: 0,
             reached: Reached::first(0),
-            places: Places::new(alloc),
+            locations: NumberedLocations::new(alloc),
             short: Chunks::new(alloc),
             long: Chunks::new(alloc),
             far: Chunks::new(alloc),
@@ -146,9 +146,9 @@ impl<const NUMBER: u64> StepList<NUMBER> {
     /// yet; if that fails, the step is stored in more bytes.
     #[tactic(auto, using(crate::proofs::Decodes::decode_length))]
     #[inline(always)]
-    pub fn append<E: Entry>(&mut self, worker: u32, entry: E)
+    pub fn append<E: StepEntry>(&mut self, worker: u32, entry: E)
         requires room { 0 < self.old.room }
-        ensures steps { Appends self.old.steps
+        ensures steps { AppendsStep self.old.steps
             (step_of worker (E.as_call entry) (E.as_reply entry)) self.new.steps }
         ensures room { self.new.room + 1 ≡ self.old.room }
         ensures bounded { length self.new.steps + self.new.room < 2 ^ 64 }
@@ -158,7 +158,7 @@ impl<const NUMBER: u64> StepList<NUMBER> {
             worker,
             self.start,
             &mut self.reached,
-            &mut self.places,
+            &mut self.locations,
             &mut self.short,
             &mut self.long,
             &mut self.far,
@@ -173,7 +173,7 @@ impl<const NUMBER: u64> StepList<NUMBER> {
         let long = self.long.to_vec()?;
         let far = self.far.to_vec()?;
         let short = self.short.to_vec()?;
-        let places = self.places.to_vec(self.alloc)?;
+        let locations = self.locations.to_vec(self.alloc)?;
         let names = short
             .iter()
             .filter(|item| matches!(item, Short::Name(_, _, _)))
@@ -182,7 +182,7 @@ impl<const NUMBER: u64> StepList<NUMBER> {
         decode_all(
             &mut all,
             NUMBER,
-            places.as_slice(),
+            locations.as_slice(),
             long.as_slice(),
             far.as_slice(),
             Reached::first(self.start),
@@ -207,12 +207,12 @@ impl<const NUMBER: u64> StepList<NUMBER> {
         let far = self.far.empty(no_far);
         self.start = next;
         self.reached = Reached::first(next);
-        let places = forget_many(&mut self.places, self.alloc);
+        let locations = forget_many(&mut self.locations, self.alloc);
         Ok(OldSteps {
             short,
             long,
             far,
-            places,
+            locations,
         })
     }
 }
@@ -223,18 +223,18 @@ pub struct OldSteps {
     short: Vec<Vec<Short>>,
     long: Vec<Vec<Step>>,
     far: Vec<Vec<FarStep>>,
-    places: Places,
+    locations: NumberedLocations,
 }
 
 // Removes the locations if there are many, and returns them.
-fn forget_many(places: &mut Places, alloc: Global) -> Places
-    ensures few { length places.old ≤ 32768 → places.new ≡ places.old }
-    ensures many { 32768 < length places.old → places.new ≡ [] }
-    ensures old { 32768 < length places.old → result ≡ places.old }
+fn forget_many(locations: &mut NumberedLocations, alloc: Global) -> NumberedLocations
+    ensures few { length locations.old ≤ 32768 → locations.new ≡ locations.old }
+    ensures many { 32768 < length locations.old → locations.new ≡ [] }
+    ensures old { 32768 < length locations.old → result ≡ locations.old }
 {
-    let none = Places::new(alloc);
-    if places.len() > MANY_PLACES {
-        mem::replace(places, none)
+    let none = NumberedLocations::new(alloc);
+    if locations.len() > MANY_LOCATIONS {
+        mem::replace(locations, none)
     } else {
         none
     }
@@ -243,31 +243,31 @@ fn forget_many(places: &mut Places, alloc: Global) -> Places
 // Appends a worker's step to the items; decoding begins at `start` and has come to `reached`. That is
 // changed in place, so that a step which leaves it unchanged doesn't write it.
 #[inline(always)]
-fn keep<const NUMBER: u64, E: Entry>(
+fn keep<const NUMBER: u64, E: StepEntry>(
     worker: u32,
     start: u64,
     reached: &mut Reached,
-    places: &mut Places,
+    locations: &mut NumberedLocations,
     list: &mut Chunks<Short>,
     long: &mut Chunks<Step>,
     far: &mut Chunks<FarStep>,
     entry: E,
 )
-    requires within { AreWithin (tables places.old long.old.items far.old.items) list.old.items }
+    requires within { AreItemsWithin (tables locations.old long.old.items far.old.items) list.old.items }
     requires own { AreOwn far.old.items }
     requires reached { reached.old ≡ reached_by NUMBER
-        (tables places.old long.old.items far.old.items) (reached_first start) list.old.items }
+        (tables locations.old long.old.items far.old.items) (reached_first start) list.old.items }
     requires room { (2 < list.old.room) × (0 < long.old.room) × (0 < far.old.room) }
     requires numbered { (length long.old.items < 2 ^ 48) × (length far.old.items < 2 ^ 48) }
-    ensures within { AreWithin (tables places.new long.new.items far.new.items) list.new.items }
+    ensures within { AreItemsWithin (tables locations.new long.new.items far.new.items) list.new.items }
     ensures own { AreOwn far.new.items }
     ensures reached { reached.new ≡ reached_by NUMBER
-        (tables places.new long.new.items far.new.items) (reached_first start) list.new.items }
-    ensures steps { Appends
-        (decode NUMBER (tables places.old long.old.items far.old.items) (reached_first start)
+        (tables locations.new long.new.items far.new.items) (reached_first start) list.new.items }
+    ensures steps { AppendsStep
+        (decode NUMBER (tables locations.old long.old.items far.old.items) (reached_first start)
         list.old.items)
         (step_of worker (E.as_call entry) (E.as_reply entry))
-        (decode NUMBER (tables places.new long.new.items far.new.items) (reached_first start)
+        (decode NUMBER (tables locations.new long.new.items far.new.items) (reached_first start)
         list.new.items) }
     ensures room { list.old.room ≤ list.new.room + 3 }
     ensures bounded { length list.new.items + list.new.room < 2 ^ 64 }
@@ -276,7 +276,7 @@ fn keep<const NUMBER: u64, E: Entry>(
     ensures far_room { far.old.room ≤ far.new.room + 1 }
     ensures few_far { length far.new.items ≤ length far.old.items + 1 }
 {
-    match shortened::<NUMBER, E>(worker, reached, places, list, entry) {
+    match shortened::<NUMBER, E>(worker, reached, locations, list, entry) {
         Some(short) => {
             list.push(short);
             advance(reached, entry);
@@ -290,18 +290,18 @@ fn keep<const NUMBER: u64, E: Entry>(
 
 // Names the step's cells, if their numbers fit, and returns the step's item, if it has one.
 #[inline(always)]
-fn shortened<const NUMBER: u64, E: Entry>(
+fn shortened<const NUMBER: u64, E: StepEntry>(
     worker: u32,
     reached: &mut Reached,
-    places: &mut Places,
+    locations: &mut NumberedLocations,
     list: &mut Chunks<Short>,
     entry: E,
 ) -> Option<Short>
     requires room { 1 < list.old.room }
-    ensures extends { Extends places.old places.new }
+    ensures extends { Extends locations.old locations.new }
     ensures names { IsNaming list.old.items list.new.items reached.old reached.new }
     ensures room { list.old.room ≤ list.new.room + 2 }
-    ensures form { IfSome result (StandsFor NUMBER places.new reached.new
+    ensures form { IfSome result (StandsFor NUMBER locations.new reached.new
         (step_of worker (E.as_call entry) (E.as_reply entry))) }
 {
     let taken = Taken {
@@ -316,14 +316,14 @@ fn shortened<const NUMBER: u64, E: Entry>(
         reached: *reached,
         worker,
     };
-    entry.form(taken, places)
+    entry.form(taken, locations)
 }
 
 // Appends a step that has no short form: with its own table, if it has a form then, or whole. It is a
 // separate function that is inlined, so that the other function's arguments are written to memory here,
 // and not where a short step is stored.
 #[inline(always)]
-fn keep_apart<const NUMBER: u64, E: Entry>(
+fn keep_apart<const NUMBER: u64, E: StepEntry>(
     worker: u32,
     reached: Reached,
     list: &mut Chunks<Short>,
@@ -355,7 +355,7 @@ fn keep_apart<const NUMBER: u64, E: Entry>(
 
 #[cold]
 #[inline(never)]
-fn push_apart<E: Entry>(
+fn push_apart<E: StepEntry>(
     taken: Taken,
     list: &mut Chunks<Short>,
     long: &mut Chunks<Step>,
@@ -392,7 +392,7 @@ fn push_apart<E: Entry>(
 
 // Appends the names before a step.
 #[inline(always)]
-fn name_cells(names: Names, reached: &mut Reached, list: &mut Chunks<Short>)
+fn name_cells(names: ItemNames, reached: &mut Reached, list: &mut Chunks<Short>)
     requires short { AreShort names }
     requires room { 1 < list.old.room }
     ensures list { list.new.items ≡ list.old.items ++ name_items names }
@@ -400,12 +400,12 @@ fn name_cells(names: Names, reached: &mut Reached, list: &mut Chunks<Short>)
     ensures room { list.old.room ≤ list.new.room + 2 }
 {
     match names {
-        Names::None => {}
-        Names::One(name) => {
+        ItemNames::None => {}
+        ItemNames::One(name) => {
             list.push(name.item());
             *reached = reached.naming(name);
         }
-        Names::Two(first, second) => name_two_cells(first, second, reached, list),
+        ItemNames::Two(first, second) => name_two_cells(first, second, reached, list),
     }
 }
 
@@ -431,7 +431,7 @@ fn name_two_cells(
 
 // Moves decoding past the step.
 #[inline(always)]
-fn advance<E: Entry>(reached: &mut Reached, entry: E)
+fn advance<E: StepEntry>(reached: &mut Reached, entry: E)
     ensures { reached.new ≡ record reached.old { next = next_after reached.old.next (E.as_reply entry) } }
 {
     *reached = reached.after(entry.reply());

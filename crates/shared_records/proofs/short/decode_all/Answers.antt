@@ -6,7 +6,7 @@ use Rattle.shared_records.proofs.short.decode_all.Goals as goal
 
 pub step_at-step-requires-clause-within : goal.step_at-step-requires-clause-within
 step_at-step-requires-clause-within c =
-    within_at (tables c.args.places.now c.args.long.now c.args.far.now) c.args.short.now
+    within_at (tables c.args.locations.now c.args.long.now c.args.far.now) c.args.short.now
     c.loop-item.item-index (short.Name 0 0 0) c.loop-item-test.true c.requires.within
 
 pub loop-item-preserved : goal.loop-item-preserved

@@ -1,6 +1,6 @@
 use Rattle.std.proofs.Common.{◌+◌, vec_len, vec_capacity, length, length-append, ap, ◌∙◌, arith}
 use Rattle.std.specs.Vec.{vec_items}
-use Rattle.shared_chunks.specs.Listed.{Listed, joined}
+use Rattle.shared_chunks.specs.Listed.{Listed, joined_chunks}
 use Rattle.shared_chunks.proofs.Lists.{joined_len}
 use Rattle.shared_chunks.proofs.list.Chunks.push.Goals as goal
 
@@ -41,5 +41,5 @@ returns-clause-bounded g c =
     let seen = ap (λ (l : Listed _). l.room) c.self.view_is in
     let all = joined_len c.self.inside.full.items c.turn.new.full.items c.self.inside.last
     c.self.inside.full_len c.turn.ensures.full inv.2 in
-    let both = length-append (joined c.turn.new.full.items) (vec_items c.push_reserved-2.new.self) in
+    let both = length-append (joined_chunks c.turn.new.full.items) (vec_items c.push_reserved-2.new.self) in
     omega arith

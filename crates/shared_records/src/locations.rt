@@ -3,7 +3,7 @@
 ghost use Rattle.std.specs.Prelude.{◌≡◌, ◌∷◌, ◌++◌, [], IfOk, IfSome, List, length, option_to_list};
 ghost use Rattle.generational_errors.specs.Texts.{same_location};
 ghost use Rattle.generational_errors.specs.declared.error.Location.{Location};
-ghost use Rattle.shared_records.specs.Decoding.{Extends, IsAt};
+ghost use Rattle.shared_records.specs.Decoding.{Extends, IsNumberOf};
 
 use generational_core::Location;
 use location_list::LocationList;
@@ -18,17 +18,17 @@ pub trait LocationTable {
     /// None if there is no room for it.
     fn find_or_add(&mut self, at: Location) -> Option<u16>
         ensures extends { Extends (Self.locations self.old) (Self.locations self.new) }
-        ensures found { IfSome result (λ i. IsAt (Self.locations self.new) i at) };
+        ensures found { IfSome result (λ i. IsNumberOf (Self.locations self.new) i at) };
 }
 
 /// Locations, each with its number from 0 to 65535. Contracts model it as the list in order. A location
 /// with the same letters, line and column isn't added again.
 #[derive(Drop)]
-pub struct Places {
+pub struct NumberedLocations {
     list: LocationList<65535>,
 }
 
-impl Model for Places {
+impl Model for NumberedLocations {
     ghost use Rattle.std.specs.Prelude.{List};
     ghost use Rattle.generational_errors.specs.declared.error.Location.{Location};
 
@@ -37,12 +37,12 @@ impl Model for Places {
     ghost view = { λ p. p.list };
 }
 
-impl Places {
+impl NumberedLocations {
     /// No locations. Doesn't allocate.
-    pub fn new(alloc: Global) -> Places
+    pub fn new(alloc: Global) -> NumberedLocations
         ensures { result ≡ [] }
     {
-        Places {
+        NumberedLocations {
             list: LocationList::new(alloc),
         }
     }
@@ -62,11 +62,11 @@ impl Places {
     }
 }
 
-impl LocationTable for Places {
+impl LocationTable for NumberedLocations {
     ghost locations = { λ p. p };
 
     // None if an allocation fails, or if there are 65536 locations.
-    #[tactic(auto, using(crate::proofs::Decodes::found_place))]
+    #[tactic(auto, using(crate::proofs::Decodes::found_location))]
     #[inline(always)]
     fn find_or_add(&mut self, at: Location) -> Option<u16> {
         let Ok(number) = self.list.find_or_add(at) else {
@@ -78,12 +78,12 @@ impl LocationTable for Places {
 
 /// At most two locations: a step's own table. Contracts model it as the list in order.
 #[derive(Drop)]
-pub struct OwnPlaces {
+pub struct OwnLocations {
     pub first: Option<Location>,
     pub second: Option<Location>,
 }
 
-impl Model for OwnPlaces {
+impl Model for OwnLocations {
     ghost use Rattle.std.specs.Prelude.{List, ◌++◌, option_to_list};
     ghost use Rattle.generational_errors.specs.declared.error.Location.{Location};
 
@@ -92,7 +92,7 @@ impl Model for OwnPlaces {
     ghost view = { λ p. option_to_list p.first ++ option_to_list p.second };
 }
 
-impl LocationTable for OwnPlaces {
+impl LocationTable for OwnLocations {
     ghost locations = { λ p. p };
 
     // None if there are two.

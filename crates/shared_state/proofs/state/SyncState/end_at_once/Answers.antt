@@ -1,0 +1,40 @@
+use Rattle.shared_state.proofs.{ap, End, end_leaves, end_refused, granted_ready, left_kept}
+use Rattle.shared_state.proofs.{left_ready, recorded_kept, recorded_step, refl}
+use Rattle.generational_core.specs.declared.steps.StepCall.TheVariants as call
+use Rattle.shared_state.proofs.state.SyncState.end_at_once.Goals as goal
+
+pub invariant_of-self-in-Ok : goal.invariant_of-self-in-Ok
+invariant_of-self-in-Ok g c =
+    recorded_kept c.self.invariant (assumption) c.self.view_is (ap (λ b. End b)
+    c.pointer-pointer.ensures) refl (granted_ready (assumption) _ _ (End c.pointer-pointer.result) _
+    _ refl c.in-Ok.ensures refl refl) c.in-Ok.ensures refl c.record_step.ensures
+
+pub invariant_of-self-then-not-record_failure : goal.invariant_of-self-then-not-record_failure
+invariant_of-self-then-not-record_failure g c =
+    left_kept _ _ (End c.pointer-pointer.result) (end_refused c.in-Err.refused) c.self.invariant
+    (assumption) c.in-Err.ensures (end_leaves _ c.in-Err.refused)
+    c.if-not-record_failure.ensures.left.0
+
+pub invariant_of-self-in-Err : goal.invariant_of-self-in-Err
+invariant_of-self-in-Err g c =
+    recorded_kept c.self.invariant (assumption) c.self.view_is (ap (λ b. End b)
+    c.pointer-pointer.ensures) refl (left_ready (call.ManuallyDrop c.pointer-pointer.result) _ _
+    (End c.pointer-pointer.result) (end_refused c.in-Err.refused) c.in-Err.ensures (end_leaves _
+    c.in-Err.refused) c.if-not-record_failure.ensures.ready) c.in-Err.ensures
+    (c.end_refusal-reply.ensures.reply c.recycle.new.self.state (End c.pointer-pointer.result))
+    c.if-not-record_failure.ensures.recorded
+
+pub returns-in-Ok-clause-step : goal.returns-in-Ok-clause-step
+returns-in-Ok-clause-step g c =
+    recorded_step c.self.invariant (assumption) c.self.view_is (ap (λ b. End b)
+    c.pointer-pointer.ensures) refl (granted_ready (assumption) _ _ (End c.pointer-pointer.result) _
+    _ refl c.in-Ok.ensures refl refl) c.in-Ok.ensures refl c.record_step.ensures refl
+
+pub returns-else-not-record_failure-clause-step : goal.returns-else-not-record_failure-clause-step
+returns-else-not-record_failure-clause-step g c =
+    recorded_step c.self.invariant (assumption) c.self.view_is (ap (λ b. End b)
+    c.pointer-pointer.ensures) refl (left_ready (call.ManuallyDrop c.pointer-pointer.result) _ _
+    (End c.pointer-pointer.result) (end_refused c.in-Err.refused) c.in-Err.ensures (end_leaves _
+    c.in-Err.refused) c.if-not-record_failure.ensures.ready) c.in-Err.ensures
+    (c.end_refusal-reply.ensures.reply c.recycle.new.self.state (End c.pointer-pointer.result))
+    c.if-not-record_failure.ensures.recorded refl

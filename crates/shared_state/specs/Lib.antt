@@ -1,0 +1,5 @@
+pub mod Answering
+pub mod Beginning
+pub mod Keeping
+pub mod Relocating
+pub mod Shared
