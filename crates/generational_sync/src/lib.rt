@@ -10,16 +10,12 @@
 //! [`SyncState`] is what the lock protects. It needs no threads.
 #![tactic(auto)]
 
-mod begin;
-pub mod laws;
 pub mod parts;
-mod state;
 mod storage;
 mod together;
 
-pub use crate::begin::{BeginError, BeginRefusal, Unbegun};
-pub use crate::state::SyncState;
 pub use crate::storage::SyncStorage;
 pub use crate::together::Together;
 pub use shared_history::{Base, Count, Tally};
 pub use shared_records::{Kind, Step, StepReply};
+pub use shared_state::{BeginError, BeginRefusal, SyncState, Unbegun, laws};

@@ -6,20 +6,20 @@ ghost use Rattle.generational_errors.specs.declared.error.StoreError.TheVariants
 ghost use Rattle.generational_core.specs.declared.steps.StepCall.TheVariants as call;
 ghost use Rattle.generational_core.specs.StepCalls.{id_of_owner, is_ready};
 ghost use Rattle.shared_history.specs.Counts.{new_tallies};
-ghost use Rattle.shared_history.specs.Bases.{IsCounted};
-ghost use Rattle.generational_sync.specs.Shared.{IsBlank, IsHistory, MayRefuseTrimming};
+ghost use Rattle.shared_history.specs.Bases.{IsTallied};
+ghost use Rattle.shared_state.specs.Shared.{IsBlank, IsHistory, MayRefuseTrimming};
 
 mod borrowing;
 mod ending;
 mod images;
 mod making;
 
-use crate::laws::histories_lead_to_sound_states;
-use crate::state::SyncState;
 use crate::together::{Held, Shared, Together};
 use generational_box::{GenerationalRef, Owner, StepCall, StoreError};
 use shared_history::{Base, Count, Tally};
 use shared_records::Step;
+use shared_state::SyncState;
+use shared_state::laws::histories_lead_to_sound_states;
 use std::alloc::Global;
 use std::sync::ledger::Blank;
 use std::sync::{Arc, Condvar, Mutex, MutexGuard, Wait};
@@ -325,7 +325,7 @@ impl<T: Drop, const NUMBER: u64, M: Count, L: Count, C: Count, R: Count> SyncSto
     ) -> Result<(Base, Vec<Step>), StoreError>
         requires { whole.old.parts ≡ M.workers }
         ensures replays { IfOk result (λ r. IsHistory NUMBER r.0 r.1.items) }
-        ensures counts { IfOk result (λ r. IsCounted whole.old r.0 r.1.items) }
+        ensures counts { IfOk result (λ r. IsTallied whole.old r.0 r.1.items) }
         ensures tally { whole.new ≡ whole.old }
         ensures refusal { IfErr result (λ e. e ≡ OutOfMemory) }
     {

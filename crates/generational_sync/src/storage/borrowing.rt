@@ -6,17 +6,17 @@ ghost use Rattle.generational_core.specs.Answers.{write_answer};
 ghost use Rattle.generational_core.specs.Machine.Action.{Read, ReleaseReader, ReleaseWriter};
 ghost use Rattle.generational_core.specs.Machine.Action.{SetValue, Write};
 ghost use Rattle.generational_core.specs.Machine.Answer.{Flag};
-ghost use Rattle.generational_sync.specs.Shared.{IsUnseenStep};
+ghost use Rattle.shared_state.specs.Shared.{IsUnseenStep};
 ghost use Rattle.shared_history.specs.Replies.{set_answer};
 
 use super::SyncStorage;
-use crate::state::SyncState;
 use crate::together::Held;
 use generational_box::{
     BorrowMutError, BorrowMutResult, BorrowResult, GenerationalBox, GenerationalRef,
     GenerationalRefMut, Location, Refused, StepCall,
 };
 use shared_history::{Count, Tally};
+use shared_state::SyncState;
 use std::sync::{MutexGuard, Wait};
 
 impl<T: Drop, const NUMBER: u64, M: Count, L: Count, C: Count, R: Count> SyncStorage<

@@ -3,15 +3,15 @@
 ghost use Rattle.std.specs.Prelude.{◌≡◌, IfErr};
 ghost use Rattle.generational_core.specs.Answers.{end_answer, pointer_of, release_answer};
 ghost use Rattle.generational_core.specs.Machine.Action.{End, Point, ReleaseOwner};
-ghost use Rattle.generational_sync.specs.Shared.{IsUnseenStep};
+ghost use Rattle.shared_state.specs.Shared.{IsUnseenStep};
 
 use super::SyncStorage;
-use crate::state::SyncState;
 use crate::together::Held;
 use generational_box::{
     BorrowMutError, BorrowMutResult, GenerationalBox, Owner, Refused, StepCall,
 };
 use shared_history::{Count, Tally};
+use shared_state::SyncState;
 use std::sync::{MutexGuard, Wait};
 
 impl<T: Drop, const NUMBER: u64, M: Count, L: Count, C: Count, R: Count> SyncStorage<

@@ -2,18 +2,18 @@
 
 ghost use Rattle.std.specs.Prelude.{◌≡◌, IfErr, IfOk, IfSome};
 ghost use Rattle.generational_core.specs.Answers.{pointer_of};
-ghost use Rattle.shared_history.specs.Bases.{IsCounted};
+ghost use Rattle.shared_history.specs.Bases.{IsTallied};
 ghost use Rattle.shared_history.specs.Counts.{new_tallies};
-ghost use Rattle.store_images.specs.Images.{IsWhole};
-ghost use Rattle.generational_sync.specs.Beginning.{IsBeginError, IsOwnImage, IsUnbegun};
-ghost use Rattle.generational_sync.specs.Beginning.{IsUnseenImage, LeadsToImage};
-ghost use Rattle.generational_sync.specs.Shared.{IsBlank, IsHistory};
+ghost use Rattle.store_images.specs.Images.{IsWholeImage};
+ghost use Rattle.shared_state.specs.Beginning.{IsBeginError, IsOwnImage, IsUnbegun};
+ghost use Rattle.shared_state.specs.Beginning.{IsUnseenImage, LeadsToImage};
+ghost use Rattle.shared_state.specs.Shared.{IsBlank, IsHistory};
 
 use super::SyncStorage;
-use crate::begin::{BeginError, BeginRefusal};
 use generational_box::{GenerationalBox, GenerationalBoxId, Image, LoadError, SaveError};
 use shared_history::{Base, Count, Tally};
 use shared_records::Step;
+use shared_state::{BeginError, BeginRefusal};
 use std::alloc::Global;
 use std::sync::ledger::Blank;
 use std::sync::{Arc, Wait};
@@ -109,7 +109,7 @@ impl<T: Drop, const NUMBER: u64, M: Count, L: Count, C: Count, R: Count> SyncSto
         T: Clone,
         ensures copy { IfOk result (λ image. IsUnseenImage T.is_clone NUMBER image) }
         ensures own { IfOk result (λ image. IsOwnImage NUMBER image) }
-        ensures whole { IfOk result IsWhole }
+        ensures whole { IfOk result IsWholeImage }
     {
         let held = self.shared.held.lock(rt);
         let state = &held.state;
@@ -143,9 +143,9 @@ impl<T: Drop, const NUMBER: u64, M: Count, L: Count, C: Count, R: Count> SyncSto
         requires { whole.old.parts ≡ M.workers }
         ensures leads { IfOk result (λ r. LeadsToImage r.1 r.2.items r.0) }
         ensures replays { IfOk result (λ r. IsHistory NUMBER r.1 r.2.items) }
-        ensures counts { IfOk result (λ r. IsCounted whole.old r.1 r.2.items) }
+        ensures counts { IfOk result (λ r. IsTallied whole.old r.1 r.2.items) }
         ensures own { IfOk result (λ r. IsOwnImage NUMBER r.0) }
-        ensures whole { IfOk result (λ r. IsWhole r.0) }
+        ensures whole { IfOk result (λ r. IsWholeImage r.0) }
         ensures tally { whole.new ≡ whole.old }
     {
         let mut held = self.shared.held.lock(rt);

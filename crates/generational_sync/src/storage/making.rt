@@ -5,7 +5,7 @@ ghost use Rattle.generational_core.specs.Answers.{box_answer, owner_answer, poin
 ghost use Rattle.generational_core.specs.Answers.{reference_box_answer};
 ghost use Rattle.generational_core.specs.Machine.Action.{CloneOwner, Make, MakeShared, NewOwner};
 ghost use Rattle.generational_core.specs.Machine.Action.{Refer};
-ghost use Rattle.generational_sync.specs.Shared.{IsUnseenStep};
+ghost use Rattle.shared_state.specs.Shared.{IsUnseenStep};
 
 use super::SyncStorage;
 use generational_box::{

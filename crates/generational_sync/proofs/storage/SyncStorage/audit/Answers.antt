@@ -1,4 +1,5 @@
-use Rattle.generational_sync.proofs.{audited, vec_items}
+use Rattle.shared_state.proofs.Keeping.Relocating.{audited}
+use Rattle.std.specs.Vec.{vec_items}
 use Rattle.generational_sync.proofs.storage.SyncStorage.audit.Goals as goal
 
 pub returns-clause-replays : goal.returns-clause-replays

@@ -1,4 +1,4 @@
-use Rattle.generational_sync.proofs.{led_to_image}
+use Rattle.shared_state.proofs.Beginning.{led_to_image}
 use Rattle.generational_sync.proofs.storage.SyncStorage.audited_image.Goals as goal
 
 pub returns-in-Ok-audit-clause-leads : goal.returns-in-Ok-audit-clause-leads

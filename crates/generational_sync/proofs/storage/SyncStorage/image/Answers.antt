@@ -1,4 +1,4 @@
-use Rattle.generational_sync.proofs.{unseen_image}
+use Rattle.shared_state.proofs.Beginning.{unseen_image}
 use Rattle.generational_sync.proofs.storage.SyncStorage.image.Goals as goal
 
 pub returns-clause-copy : goal.returns-clause-copy

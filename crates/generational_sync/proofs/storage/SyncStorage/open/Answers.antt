@@ -1,4 +1,4 @@
-use Rattle.generational_sync.proofs.{opened_by}
+use Rattle.shared_state.proofs.Keeping.{opened_by}
 use Rattle.generational_sync.proofs.storage.SyncStorage.open.Goals as goal
 
 pub returns-clause-own : goal.returns-clause-own

@@ -1,4 +1,4 @@
-use Rattle.generational_sync.proofs.{refl}
+use Rattle.std.specs.Prelude.{refl}
 use Rattle.generational_sync.proofs.together.Together.run.Goals as goal
 
 pub returns : goal.returns

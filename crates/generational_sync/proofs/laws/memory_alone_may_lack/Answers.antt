@@ -1,5 +1,0 @@
-use Rattle.generational_sync.proofs.{arith}
-use Rattle.generational_sync.proofs.laws.memory_alone_may_lack.Goals as goal
-
-pub returns : goal.returns
-returns g c number a e ticket owner may = grind arith
