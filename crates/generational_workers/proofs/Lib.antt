@@ -1,2 +1,4 @@
 pub mod Keeping
+pub mod Seen
 pub mod Tallies
+pub mod Waits

@@ -7,7 +7,7 @@ use Rattle.std.proofs.lemmas.List.{map-append, length-map}
 use Rattle.std.proofs.lemmas.List.Elements.{All-append, All-cons}
 use Rattle.shared_records.specs.declared.step.Step.{Step}
 use Rattle.generational_workers.specs.Runs.{HaveServed, IsRun, all_merged}
-use Rattle.shared_history.specs.Bases.{BaseState, IsCounted}
+use Rattle.shared_history.specs.Bases.{BaseState, IsTallied}
 use Rattle.shared_history.specs.Counts.{Counts, new_tally, new_tallies}
 
 -- lists that are the same, each with another element at its end, were the same
@@ -52,6 +52,22 @@ module _ {A : Type 0} (tally : A → Counts) (n : ℕ) where
       ap length (sym (e ∙ ap new_tallies (add-one n))) ∙ length-map xs tally in
       absurd (omega (arith, longer, none, length-append (new_tallies n) (new_tally n ∷ [])))
 
+-- what is counted in a history is counted in one that is the same, by a tally that is the same
+pub counted_so : (w v : Counts) (b a : BaseState) (l k : List Step) → w ≡ v → a ≡ b → k ≡ l
+    → IsTallied w b l → IsTallied v a k
+counted_so w v b a l k whole base steps it =
+    subst (λ x. IsTallied x a k) whole (subst (λ x. IsTallied w x k) (sym base)
+    (subst (λ x. IsTallied w b x) (sym steps) it))
+
+-- of one new tally more than n the last is numbered n, and there is one
+pub last_new : (n : ℕ) (xs : List Counts) (x : Counts) → xs ++ x ∷ [] ≡ new_tallies (n + 1)
+    → (xs ≡ new_tallies n) × (x ≡ new_tally n)
+last_new n xs x e = snoc_same _ _ _ _ (e ∙ ap new_tallies (add-one n))
+
+pub some_new : (n : ℕ) (xs : List Counts) → length xs ≡ 0 → xs ≡ new_tallies (n + 1) → ⊥
+some_new n xs none e =
+    let long = ap length e ∙ length-new_tallies (n + 1) in absurd (omega (arith, none, long))
+
 module _ {Job Answered Answer : Type 0} (serves : Counts → Answer → Counts → Type 0)
     (given : Job → Counts) (answer : Answered → Answer) (counted : Answered → Counts) where
   -- what holds of each job and of what became of it, by their places, holds along the lists
@@ -87,7 +103,7 @@ module _ {Shared Answer End : Type 0} (begins : Counts → Shared → Counts →
       (before tallies : List Counts) → first ≡ new_tally workers → begins first shared begun
       → before ≡ new_tallies workers → HaveServed (serves shared) before given tallies
       → answers ≡ given → ends shared begun end ended → whole ≡ all_merged ended tallies
-      → IsCounted whole base steps → IsRun begins serves ends workers end answers base steps
+      → IsTallied whole base steps → IsRun begins serves ends workers end answers base steps
   put_together workers end answers given base steps shared first begun ended whole before tallies
       is began all served same last merged counted =
       record {
@@ -99,5 +115,26 @@ module _ {Shared Answer End : Type 0} (begins : Counts → Shared → Counts →
             (sym same) (subst (λ cs. HaveServed (serves shared) cs given tallies) all served);
         ended = ended;
         last = last;
-        counted = subst (λ c. IsCounted c base steps) merged counted;
+        counted = subst (λ c. IsTallied c base steps) merged counted;
       }
+
+module _ {Answered Answer : Type 0} (serves : Counts → Answer → Counts → Type 0)
+    (answer : Answered → Answer) (counted : Answered → Counts) where
+  -- one more has served after these
+  pub one_more : (before : List Counts) (rs : List Answered) (old : Counts) (r : Answered)
+      → HaveServed serves before (map answer rs) (map counted rs)
+      → serves old (answer r) (counted r)
+      → HaveServed serves (before ++ old ∷ []) (map answer (rs ++ r ∷ [])) (map counted (rs ++ r ∷ []))
+  one_more [] [] old r so_far it = (it, tt)
+  one_more [] (s ∷ rs) old r so_far it = elim so_far [ ]
+  one_more (b ∷ bs) [] old r so_far it = elim so_far [ ]
+  one_more (b ∷ bs) (s ∷ rs) old r so_far it = (so_far.0, one_more bs rs old r so_far.1 it)
+
+  -- the same of a list with one more that has served
+  pub served_more : (before : List Counts) (rs all : List Answered) (old : Counts) (r : Answered)
+      → all ≡ rs ++ r ∷ [] → HaveServed serves before (map answer rs) (map counted rs)
+      → serves old (answer r) (counted r)
+      → HaveServed serves (before ++ old ∷ []) (map answer all) (map counted all)
+  served_more before rs all old r same so_far it =
+      subst (λ l. HaveServed serves (before ++ old ∷ []) (map answer l) (map counted l)) (sym same)
+      (one_more before rs old r so_far it)

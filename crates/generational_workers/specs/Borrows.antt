@@ -7,7 +7,7 @@ use Rattle.generational_core.specs.Borrowing.BorrowRefusal.{Dropped}
 use Rattle.generational_core.specs.Machine.{Answer}
 use Rattle.generational_core.specs.Machine.Action.{Read, ReleaseReader, ReleaseWriter, Write}
 use Rattle.generational_core.specs.Machine.Answer.{BorrowRefused, Flag, Reads, Writes}
-use Rattle.generational_sync.specs.Shared.{IsUnseenStep}
+use Rattle.shared_state.specs.Shared.{IsUnseenStep}
 use Rattle.shared_history.specs.Counts.{Counts}
 
 -- a read of this box began, and ended by its own guard

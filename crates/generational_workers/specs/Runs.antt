@@ -1,7 +1,7 @@
 -- The result of a run: what its workers did, and what they counted.
 use Rattle.std.specs.Prelude.{ℕ, List, [], ◌∷◌, fold}
 use Rattle.shared_records.specs.declared.step.Step.{Step}
-use Rattle.shared_history.specs.Bases.{BaseState, IsCounted}
+use Rattle.shared_history.specs.Bases.{BaseState, IsTallied}
 use Rattle.shared_history.specs.Counts.{Counts, merged, new_tallies, new_tally}
 
 -- what a tally counts once all of these are merged in it
@@ -33,4 +33,4 @@ pub record IsRun {Shared Answer End : Type 0} (begins : Counts → Shared → Co
   pub ended : Counts
   pub last : ends shared begun end ended
   -- and the history has of each kind as many steps as they all have counted
-  pub counted : IsCounted (all_merged ended tallies) base steps
+  pub counted : IsTallied (all_merged ended tallies) base steps

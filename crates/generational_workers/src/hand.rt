@@ -6,7 +6,7 @@ ghost use Rattle.generational_core.specs.Answers.{reference_box_answer, write_an
 ghost use Rattle.generational_core.specs.Machine.Action.{End, Point, Read, Refer, ReleaseReader};
 ghost use Rattle.generational_core.specs.Machine.Action.{ReleaseWriter, SetValue, Write};
 ghost use Rattle.generational_core.specs.Machine.Answer.{Flag};
-ghost use Rattle.generational_sync.specs.Shared.{IsUnseenStep};
+ghost use Rattle.shared_state.specs.Shared.{IsUnseenStep};
 ghost use Rattle.shared_history.specs.Replies.{set_answer};
 
 use crate::own::OwnTally;

@@ -2,7 +2,7 @@
 
 ghost use Rattle.std.specs.Prelude.{◌≡◌, ◌+◌, All, IfOk, length, map};
 ghost use Rattle.std.specs.Thread.{IsSend, IsSync};
-ghost use Rattle.generational_sync.specs.Shared.{IsBlank, IsHistory};
+ghost use Rattle.shared_state.specs.Shared.{IsBlank, IsHistory};
 ghost use Rattle.generational_workers.specs.Runs.{HaveServed, IsRun};
 ghost use Rattle.shared_history.specs.Counts.{new_tallies, new_tally};
 

@@ -11,7 +11,7 @@ ghost use Rattle.generational_core.specs.Machine.Action.{NewOwner, Point, Read, 
 ghost use Rattle.generational_core.specs.Machine.Action.{ReleaseReader, ReleaseWriter, SetValue};
 ghost use Rattle.generational_core.specs.Machine.Action.{Write};
 ghost use Rattle.generational_core.specs.Machine.Answer.{Back, Done, Flag, Owned};
-ghost use Rattle.generational_sync.specs.Shared.{IsUnseenStep, MayRefuseTrimming};
+ghost use Rattle.shared_state.specs.Shared.{IsUnseenStep, MayRefuseTrimming};
 ghost use Rattle.generational_workers.specs.Borrows.{IsOwnDropped, IsReadThrough, IsWriteThrough};
 ghost use Rattle.shared_history.specs.Counts.{Counts};
 ghost use Rattle.shared_history.specs.Replies.{set_answer};

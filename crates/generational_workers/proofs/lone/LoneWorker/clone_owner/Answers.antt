@@ -1,0 +1,6 @@
+use Rattle.generational_workers.proofs.Seen.{seen_after_pause}
+use Rattle.generational_workers.proofs.lone.LoneWorker.clone_owner.Goals as goal
+
+pub returns : goal.returns
+returns g c =
+    record { step = seen_after_pause _ _ _ _ _ _ _ _ c.keep_pace.ensures c.clone_owner.ensures.step }
