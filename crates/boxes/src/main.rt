@@ -5,7 +5,7 @@
 //! output of `fuzz`.
 #![tactic(auto)]
 
-use boxes_script::{Fault, boxes_run, report};
+use boxes_script::{ScriptFault, boxes_run, report};
 use std::env;
 use std::io::{ErrorKind, Read, Write};
 use std::process::ExitCode;
@@ -30,10 +30,13 @@ fn run<R: Env + AllocGlobal, I: Read, O: Write, E: Write>(
 }
 
 // The words after the program's name. One that is not UTF-8 is unknown to the program.
-fn words<R: Env + AllocGlobal>(rt: &R) -> Result<Vec<String>, Fault> {
+fn words<R: Env + AllocGlobal>(rt: &R) -> Result<Vec<String>, ScriptFault> {
     match env::args(rt) {
-        Ok(words) => words.skip(1).collect(rt.alloc()).map_err(|_| Fault::Memory),
-        Err(error) if error.kind() == ErrorKind::OutOfMemory => Err(Fault::Memory),
-        Err(_) => Err(Fault::Usage),
+        Ok(words) => words
+            .skip(1)
+            .collect(rt.alloc())
+            .map_err(|_| ScriptFault::Memory),
+        Err(error) if error.kind() == ErrorKind::OutOfMemory => Err(ScriptFault::Memory),
+        Err(_) => Err(ScriptFault::Usage),
     }
 }

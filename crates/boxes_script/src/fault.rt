@@ -5,7 +5,7 @@ use thiserror::Error;
 
 /// Why a run ends before the end of its input. Its text is what standard error gets.
 #[derive(Clone, Copy, Debug, PartialEq, Eq, Error)]
-pub enum Fault {
+pub enum ScriptFault {
     /// There are arguments, and the program doesn't know them.
     #[error("boxes: usage: boxes or boxes fuzz SEED COUNT")]
     Usage,
@@ -23,15 +23,15 @@ pub enum Fault {
     Memory,
 }
 
-impl Fault {
+impl ScriptFault {
     /// The exit status of a run that ends with this fault.
     pub fn status(self) -> u8
         ensures { 0 < result }
     {
         match self {
-            Fault::Input | Fault::Output => 1,
-            Fault::Usage | Fault::TooManyLines => 2,
-            Fault::Memory => 3,
+            ScriptFault::Input | ScriptFault::Output => 1,
+            ScriptFault::Usage | ScriptFault::TooManyLines => 2,
+            ScriptFault::Memory => 3,
         }
     }
 }

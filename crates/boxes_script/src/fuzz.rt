@@ -5,7 +5,7 @@ ghost use Rattle.generational_core.specs.Conditions.{IsFresh, fresh};
 
 use crate::drawing::{WORDS, fuzz_calls};
 use crate::words::fuzz_words;
-use boxes_parts::{Verdict, compare, is_bounded};
+use crate::{Verdict, compare, is_bounded};
 use generational_box::{
     Call, GenerationalBox, LastFirst, Location, Numbers, OldestFirst, Reply, Session, Storage,
     Store, StoreError, UnsyncStorage,

@@ -1,5 +1,5 @@
 //! An input, cut into lines.
-use crate::fault::Fault;
+use crate::fault::ScriptFault;
 use std::alloc::Global;
 use std::io::{BufRead, BufReader, ErrorKind, Read};
 
@@ -13,8 +13,8 @@ pub struct Lines<R> {
 
 impl<R: Read + Drop> Lines<R> {
     /// Lines of `input`, read through a buffer.
-    pub fn new(alloc: Global, input: R) -> Result<Lines<R>, Fault> {
-        let input = BufReader::new(alloc, input).map_err(|_| Fault::Memory)?;
+    pub fn new(alloc: Global, input: R) -> Result<Lines<R>, ScriptFault> {
+        let input = BufReader::new(alloc, input).map_err(|_| ScriptFault::Memory)?;
         Ok(Lines {
             input,
             line: Vec::new(alloc),
@@ -23,7 +23,7 @@ impl<R: Read + Drop> Lines<R> {
     }
 
     /// Whether there is another byte. Once the input has ended, it is not read again.
-    pub fn has_more(&mut self) -> Result<bool, Fault> {
+    pub fn has_more(&mut self) -> Result<bool, ScriptFault> {
         if self.has_ended {
             return Ok(false);
         }
@@ -34,10 +34,10 @@ impl<R: Read + Drop> Lines<R> {
                     return Ok(!self.has_ended);
                 }
                 Err(error) if error.kind() == ErrorKind::Interrupted => {}
-                Err(_) => return Err(Fault::Input),
+                Err(_) => return Err(ScriptFault::Input),
             }
         }
-        Err(Fault::Input)
+        Err(ScriptFault::Input)
     }
 
     /// Whether everything that was read was returned, so that the next call reads again.
@@ -47,7 +47,7 @@ impl<R: Read + Drop> Lines<R> {
 
     /// The next line without its end, or `None` after the last. A last line without an end is a
     /// line if it is not empty.
-    pub fn next_line(&mut self) -> Result<Option<&[u8]>, Fault> {
+    pub fn next_line(&mut self) -> Result<Option<&[u8]>, ScriptFault> {
         self.line.clear();
         for _ in 0..u64::MAX {
             if !self.has_more()? {
@@ -57,7 +57,7 @@ impl<R: Read + Drop> Lines<R> {
                 return Ok(Some(self.line.as_slice()));
             }
         }
-        Err(Fault::Input)
+        Err(ScriptFault::Input)
     }
 
     // What follows the last line end.
@@ -70,13 +70,13 @@ impl<R: Read + Drop> Lines<R> {
     }
 
     // Moves what is buffered, up to the line's end, to the line. Returns whether the line ended.
-    fn take_piece(&mut self) -> Result<bool, Fault> {
+    fn take_piece(&mut self) -> Result<bool, ScriptFault> {
         let piece = self.input.buffer();
         let end = piece.iter().position(|byte| *byte == b'\n');
         let length = end.unwrap_or(piece.len());
         self.line
             .extend_from_slice(&piece[..length])
-            .map_err(|_| Fault::Memory)?;
+            .map_err(|_| ScriptFault::Memory)?;
         let taken = if end.is_some() { length + 1 } else { length };
         self.input.consume(taken);
         Ok(end.is_some())

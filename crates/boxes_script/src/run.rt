@@ -2,12 +2,12 @@
 
 ghost use Rattle.generational_core.specs.Conditions.{IsFresh};
 
-use crate::fault::Fault;
+use crate::Verdict;
+use crate::fault::ScriptFault;
 use crate::fuzz::{Pair, compare_drawn, fuzz_pair};
 use crate::lines::Lines;
+use crate::numbers::MOST_LINES;
 use crate::script::Script;
-use boxes_parts::Verdict;
-use boxes_parts::numbers::MOST_LINES;
 use generational_box::{Storage, UnsyncStorage};
 use std::alloc::Global;
 use std::io::{BufWriter, Read, Write};
@@ -61,7 +61,7 @@ pub fn fuzz_run<W: Write, E: Write>(
 }
 
 // The exit status of a run that ended so.
-fn status_of<E: Write>(ended: Result<u8, Fault>, faults: &mut E) -> u8 {
+fn status_of<E: Write>(ended: Result<u8, ScriptFault>, faults: &mut E) -> u8 {
     match ended {
         Ok(status) => status,
         Err(fault) => report(fault, faults),
@@ -69,7 +69,7 @@ fn status_of<E: Write>(ended: Result<u8, Fault>, faults: &mut E) -> u8 {
 }
 
 /// Writes a fault's text. Returns the exit status.
-pub fn report<E: Write>(fault: Fault, faults: &mut E) -> u8 {
+pub fn report<E: Write>(fault: ScriptFault, faults: &mut E) -> u8 {
     let _ = writeln!(faults, "{fault}");
     let _ = faults.flush();
     fault.status()
@@ -81,11 +81,11 @@ fn run<S: Storage<String> + Drop, R: Read, W: Write>(
     store: S,
     input: &mut R,
     output: &mut W,
-) -> Result<u8, Fault>
+) -> Result<u8, ScriptFault>
     requires { IsFresh (S.state store) }
 {
     let mut lines = Lines::new(alloc, input)?;
-    let mut replies = BufWriter::new(alloc, output).map_err(|_| Fault::Memory)?;
+    let mut replies = BufWriter::new(alloc, output).map_err(|_| ScriptFault::Memory)?;
     let mut script = Script::new(alloc, store);
     let answered = answer_lines(&mut script, &mut lines, &mut replies);
     let _store = script.finish();
@@ -100,19 +100,19 @@ fn run_fuzz<S: Storage<String> + Drop, R: Storage<String> + Drop, W: Write>(
     one: S,
     other: R,
     output: &mut W,
-) -> Result<u8, Fault>
+) -> Result<u8, ScriptFault>
     requires one { IsFresh (S.state one) }
     requires other { IsFresh (R.state other) }
 {
-    let (seed, count) = seed_and_count(words).ok_or(Fault::Usage)?;
+    let (seed, count) = seed_and_count(words).ok_or(ScriptFault::Usage)?;
     let verdict = compare_drawn(alloc, seed, count, one, other);
-    let verdict = verdict.map_err(|_| Fault::Memory)?;
-    writeln!(output, "{verdict}").map_err(|_| Fault::Output)?;
-    output.flush().map_err(|_| Fault::Output)?;
+    let verdict = verdict.map_err(|_| ScriptFault::Memory)?;
+    writeln!(output, "{verdict}").map_err(|_| ScriptFault::Output)?;
+    output.flush().map_err(|_| ScriptFault::Output)?;
     match verdict {
         Verdict::Same => Ok(0),
         Verdict::Differs(_) => Ok(4),
-        Verdict::Refused(_) => Err(Fault::Memory),
+        Verdict::Refused(_) => Err(ScriptFault::Memory),
     }
 }
 
@@ -144,7 +144,7 @@ fn answer_lines<S: Storage<String>, R: Read + Drop, W: Write>(
     script: &mut Script<S>,
     lines: &mut Lines<R>,
     replies: &mut W,
-) -> Result<(), Fault> {
+) -> Result<(), ScriptFault> {
     for number in 1..=MOST_LINES {
         let Some(line) = lines.next_line()? else {
             return Ok(());
@@ -152,23 +152,23 @@ fn answer_lines<S: Storage<String>, R: Read + Drop, W: Write>(
         script.answer(number, line, replies)?;
         // A caller that writes a line at a time gets its reply before the next line is read.
         if lines.is_drained() {
-            replies.flush().map_err(|_| Fault::Output)?;
+            replies.flush().map_err(|_| ScriptFault::Output)?;
         }
     }
     if lines.has_more()? {
-        return Err(Fault::TooManyLines);
+        return Err(ScriptFault::TooManyLines);
     }
     Ok(())
 }
 
 // Writes the replies that are still buffered. After a write that failed nothing more is written.
 fn end_replies<W: Write + Drop>(
-    answered: Result<(), Fault>,
+    answered: Result<(), ScriptFault>,
     mut replies: BufWriter<W>,
-) -> Result<(), Fault> {
+) -> Result<(), ScriptFault> {
     let written = match answered {
-        Err(Fault::Output) => Err(Fault::Output),
-        _ => replies.flush().map_err(|_| Fault::Output),
+        Err(ScriptFault::Output) => Err(ScriptFault::Output),
+        _ => replies.flush().map_err(|_| ScriptFault::Output),
     };
     let _unwritten = replies.into_parts();
     written.and(answered)

@@ -2,8 +2,8 @@
 ghost use Rattle.std.specs.Prelude.{◌<◌, ◌≤◌, OnOk, vec_len};
 ghost use Rattle.generational_core.specs.Conditions.{IsFresh};
 
-use crate::fault::Fault;
-use boxes_parts::numbers::line_number;
+use crate::fault::ScriptFault;
+use crate::numbers::line_number;
 use generational_box::{BoxAt, Call, Location, Reply, Session, Storage, StoreError};
 use std::alloc::{AllocError, Global};
 use std::fmt::Display;
@@ -28,16 +28,16 @@ struct Given {
 
 /// The places of the lines' calls.
 #[derive(Drop)]
-struct Places {
+struct LinePlaces {
     alloc: Global,
     by_line: Vec<Option<Given>>,
     given: usize,
     ghost counted: { given ≤ vec_len by_line },
 }
 
-impl Places {
-    fn new(alloc: Global) -> Places {
-        Places {
+impl LinePlaces {
+    fn new(alloc: Global) -> LinePlaces {
+        LinePlaces {
             alloc,
             by_line: Vec::new(alloc),
             given: 0,
@@ -117,7 +117,8 @@ impl Places {
         let value = String::from_str(self.alloc, value)?;
         Ok(Some(Request::Call(match word {
             "leak" => Call::Leak(value, location),
-            _ => Call::LeakRc(value, location),
+            "leak_rc" => Call::LeakRc(value, location),
+            _ => return Ok(None),
         })))
     }
 
@@ -137,7 +138,8 @@ impl Places {
             "insert" => Call::Insert(place, value, location),
             "insert_rc" => Call::InsertRc(place, value, location),
             "replace" => Call::Replace(place, value),
-            _ => Call::Set(BoxAt::Place(place), value),
+            "set" => Call::Set(BoxAt::Place(place), value),
+            _ => return Ok(None),
         })))
     }
 
@@ -148,7 +150,8 @@ impl Places {
         Some(Request::Call(match word {
             "insert_reference" => Call::InsertReference(one, other),
             "point_to" => Call::PointTo(BoxAt::Place(one), other),
-            _ => Call::PtrEq(BoxAt::Place(one), other),
+            "ptr_eq" => Call::PtrEq(BoxAt::Place(one), other),
+            _ => return None,
         }))
     }
 
@@ -188,7 +191,7 @@ fn of_word(word: &str) -> Option<Request> {
 /// It must be consumed by `finish`.
 pub struct Script<S: Storage<String>> {
     session: Session<String, S>,
-    places: Places,
+    places: LinePlaces,
 }
 
 impl<S: Storage<String>> Script<S> {
@@ -198,7 +201,7 @@ impl<S: Storage<String>> Script<S> {
     {
         Script {
             session: Session::new(alloc, store),
-            places: Places::new(alloc),
+            places: LinePlaces::new(alloc),
         }
     }
 
@@ -210,12 +213,13 @@ impl<S: Storage<String>> Script<S> {
         number: u32,
         line: &[u8],
         output: &mut W,
-    ) -> Result<(), Fault> {
-        self.places.add_line().map_err(|_| Fault::Memory)?;
+    ) -> Result<(), ScriptFault> {
+        self.places.add_line().map_err(|_| ScriptFault::Memory)?;
         let location = Location::new("script", number, 1);
         let asked = self.places.request(line, location);
-        let asked = asked.map_err(|_| Fault::Memory)?;
-        self.carry_out(asked, output).map_err(|_| Fault::Output)
+        let asked = asked.map_err(|_| ScriptFault::Memory)?;
+        self.carry_out(asked, output)
+            .map_err(|_| ScriptFault::Output)
     }
 
     // Runs a line's request, and writes the reply.
@@ -235,14 +239,14 @@ impl<S: Storage<String>> Script<S> {
 
     /// Makes a call on the next line, which may be one that no command has, and returns its reply. The
     /// only fault is `Memory`: then no call was made.
-    pub fn call_next(&mut self, call: Call<String>) -> Result<Reply<String>, Fault> {
-        self.places.add_line().map_err(|_| Fault::Memory)?;
-        self.call(call).ok_or(Fault::Memory)
+    pub fn call_next(&mut self, call: Call<String>) -> Result<Reply<String>, ScriptFault> {
+        self.places.add_line().map_err(|_| ScriptFault::Memory)?;
+        self.call(call).ok_or(ScriptFault::Memory)
     }
 
     /// Leaves the next line without a call and without a reply.
-    pub fn pass_line(&mut self) -> Result<(), Fault> {
-        self.places.add_line().map_err(|_| Fault::Memory)
+    pub fn pass_line(&mut self) -> Result<(), ScriptFault> {
+        self.places.add_line().map_err(|_| ScriptFault::Memory)
     }
 
     /// The session that the script calls.

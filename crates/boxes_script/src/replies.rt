@@ -5,7 +5,7 @@ ghost use Rattle.generational_core.specs.Answers.{refusal_of_error};
 ghost use Rattle.generational_errors.specs.declared.error.StoreError.TheVariants.{OutOfMemory};
 ghost use Rattle.generational_sessions.specs.Numbered.{refusal_in};
 ghost use Rattle.generational_sessions.specs.Places.{as_reply};
-ghost use Rattle.boxes_parts.specs.Told.{told, plain, plain_refusal};
+ghost use Rattle.boxes_script.specs.Told.{plain_location, reply_told, plain_refusal};
 
 use generational_core::{BorrowMutError, Location, StoreError};
 use generational_sessions::Reply;
@@ -23,7 +23,7 @@ pub fn is_lacking(reply: &Reply<String>) -> bool
 /// Whether two replies say the same, ids and numbers of slots aside: both are of one kind, with the same
 /// locations, flags, texts and errors. Doesn't allocate.
 pub fn is_same(one: &Reply<String>, other: &Reply<String>) -> bool
-    ensures { IsTrue result ↔ (told one.now ≡ told other.now) }
+    ensures { IsTrue result ↔ (reply_told one.now ≡ reply_told other.now) }
 {
     match (one, other) {
         (Reply::Box(one), Reply::Box(other)) => {
@@ -51,7 +51,7 @@ pub fn is_same(one: &Reply<String>, other: &Reply<String>) -> bool
 
 // Whether two locations are the same.
 fn is_same_location(one: &Location, other: &Location) -> bool
-    ensures { IsTrue result ↔ (plain one.now ≡ plain other.now) }
+    ensures { IsTrue result ↔ (plain_location one.now ≡ plain_location other.now) }
 {
     one == other
 }

@@ -14,22 +14,22 @@ use Rattle.generational_sessions.specs.Session.SessionReply.{ABox, AnOwner, ARea
 use Rattle.generational_sessions.specs.Session.SessionReply.{IsDone, TheOld, Yes, TheId, TheSlot}
 use Rattle.generational_sessions.specs.Session.SessionReply.{Created, Error, Lacking, HandedBack}
 use Rattle.generational_sessions.specs.Session.SessionReply.{Unready, NoSuch}
-use Rattle.boxes_parts.specs.declared.verdict.Verdict.{Verdict}
-use Rattle.boxes_parts.specs.declared.verdict.Verdict.TheVariants as verdict
+use Rattle.boxes_script.specs.declared.verdict.Verdict.{Verdict}
+use Rattle.boxes_script.specs.declared.verdict.Verdict.TheVariants as verdict
 
 -- a location with its file's name as plain text
-abbrev pub plain : Location → Location
-plain l = record l { file = record l.file { ref_ptr = (0, 0) } }
+abbrev pub plain_location : Location → Location
+plain_location l = record l { file = record l.file { ref_ptr = (0, 0) } }
 
 abbrev pub plain_refusal : BorrowRefusal → BorrowRefusal
-plain_refusal (Dropped l) = Dropped (plain l)
-plain_refusal (BeingWritten l) = BeingWritten (plain l)
-plain_refusal (BeingRead ls) = BeingRead (list_map plain ls)
+plain_refusal (Dropped l) = Dropped (plain_location l)
+plain_refusal (BeingWritten l) = BeingWritten (plain_location l)
+plain_refusal (BeingRead ls) = BeingRead (list_map plain_location ls)
 
 module _ {T U : Type 0} (f : T → U) where
   -- a reply with its locations plain, and its values turned by a function
   abbrev pub plain_reply : SessionReply T → SessionReply U
-  plain_reply (ABox b) = ABox (record b { created_at = plain b.created_at })
+  plain_reply (ABox b) = ABox (record b { created_at = plain_location b.created_at })
   plain_reply AnOwner = AnOwner
   plain_reply AReader = AReader
   plain_reply AWriter = AWriter
@@ -38,7 +38,7 @@ module _ {T U : Type 0} (f : T → U) where
   plain_reply (Yes b) = Yes b
   plain_reply (TheId id) = TheId id
   plain_reply (TheSlot n) = TheSlot n
-  plain_reply (Created l) = Created (plain l)
+  plain_reply (Created l) = Created (plain_location l)
   plain_reply (Error t) = Error (plain_refusal t)
   plain_reply (Lacking e) = Lacking e
   plain_reply (HandedBack v e) = HandedBack (f v) e
@@ -47,8 +47,8 @@ module _ {T U : Type 0} (f : T → U) where
 
 module _ {Z : Type 0} where
   -- what a reply says: ids and numbers of slots are ignored, and texts are their bytes
-  abbrev pub told : Reply (String Z) → SessionReply (List ℕ)
-  told x = plain_reply string_bytes (erase (as_reply x))
+  abbrev pub reply_told : Reply (String Z) → SessionReply (List ℕ)
+  reply_told x = plain_reply string_bytes (erase (as_reply x))
 
   -- the call at a place failed to allocate
   abbrev pub LacksAt : List (Reply (String Z)) → ℕ → Type 0
@@ -56,7 +56,7 @@ module _ {Z : Type 0} where
 
   -- at a place both lists say the same, and neither call failed to allocate
   pub record AreSameAt (xs ys : List (Reply (String Z))) (i : ℕ) : Type 0 where
-    pub same : slice_get (list_map told xs) i ≡ slice_get (list_map told ys) i
+    pub same : slice_get (list_map reply_told xs) i ≡ slice_get (list_map reply_told ys) i
     pub one : LacksAt xs i → ⊥
     pub other : LacksAt ys i → ⊥
 
@@ -67,7 +67,7 @@ module _ {Z : Type 0} where
   abbrev pub Compares : List (Reply (String Z)) → List (Reply (String Z)) → Verdict → Type 0
   Compares xs ys verdict.Same = (i : ℕ) → AreSameAt xs ys i
   Compares xs ys (verdict.Differs n) = AreSameBelow xs ys n
-      × (slice_get (list_map told xs) n ≢ slice_get (list_map told ys) n)
+      × (slice_get (list_map reply_told xs) n ≢ slice_get (list_map reply_told ys) n)
       × (LacksAt xs n → slice_get ys n ≡ None) × (LacksAt ys n → slice_get xs n ≡ None)
   Compares xs ys (verdict.Refused n) = AreSameBelow xs ys n × (LacksAt xs n ⊎ LacksAt ys n)
 

@@ -1,7 +1,7 @@
 //! Two lists of replies, compared.
 
 ghost use Rattle.std.specs.Prelude.{◌≡◌};
-ghost use Rattle.boxes_parts.specs.Told.{Compares, with_breach};
+ghost use Rattle.boxes_script.specs.Told.{Compares, with_breach};
 
 use crate::replies::{is_lacking, is_same};
 use generational_sessions::Reply;

@@ -1,5 +1,5 @@
 -- Places, and sessions with the same replies.
-use Rattle.boxes_parts.specs.Told.{AreSameAt, AreSameBelow, LacksAt, plain, told}
+use Rattle.boxes_script.specs.Told.{AreSameAt, AreSameBelow, LacksAt, plain_location, reply_told}
 use Rattle.generational_errors.specs.Texts.{same_location, same_locations}
 use Rattle.generational_errors.specs.declared.error.Location.{Location}
 use Rattle.generational_errors.specs.declared.error.StoreError.TheVariants.{OutOfMemory}
@@ -27,14 +27,14 @@ module _ {A B : Type 0} (E : A → A → Bool) (f : A → B)
       let more = lists_decide xs ys in
       grind (arith, common_steps, h, more)
 
-pub locations_decide : (a b : Location) → Decides (same_location a b) (plain a ≡ plain b)
+pub locations_decide : (a b : Location) → Decides (same_location a b) (plain_location a ≡ plain_location b)
 locations_decide a b =
     let h = bytes_eq-Decides a.file.now b.file.now in
     grind (arith, common_steps, h)
 
 pub readers_decide : (xs ys : List Location)
-    → Decides (same_locations xs ys) (list_map plain xs ≡ list_map plain ys)
-readers_decide = lists_decide same_location plain locations_decide
+    → Decides (same_locations xs ys) (list_map plain_location xs ≡ list_map plain_location ys)
+readers_decide = lists_decide same_location plain_location locations_decide
 
 -- ==== two lists of replies at a place, and past their ends
 
@@ -63,18 +63,18 @@ module _ {Z : Type 0} where
 
 module _ {Z : Type 0} (xs ys : List (Reply (String Z))) where
   pub same_at : (i : ℕ) (x y : Reply (String Z))
-      → slice_get xs i ≡ Some x → slice_get ys i ≡ Some y → told x ≡ told y
+      → slice_get xs i ≡ Some x → slice_get ys i ≡ Some y → reply_told x ≡ reply_told y
       → refusal_in (as_reply x) ≢ Some OutOfMemory → refusal_in (as_reply y) ≢ Some OutOfMemory
       → AreSameAt xs ys i
   same_at i x y at_x at_y same x_has y_has = record {
-    same = turned_at told xs i x at_x ∙ (ap Some same ∙ sym (turned_at told ys i y at_y));
+    same = turned_at reply_told xs i x at_x ∙ (ap Some same ∙ sym (turned_at reply_told ys i y at_y));
     one = λ lacks. x_has (lacks_at xs i x at_x lacks);
     other = λ lacks. y_has (lacks_at ys i y at_y lacks);
   }
 
   pub same_past : (i : ℕ) → length xs ≤ i → length ys ≤ i → AreSameAt xs ys i
   same_past i past_x past_y = record {
-    same = turned_past told xs i past_x ∙ sym (turned_past told ys i past_y);
+    same = turned_past reply_told xs i past_x ∙ sym (turned_past reply_told ys i past_y);
     one = lacks_within xs i past_x;
     other = lacks_within ys i past_y;
   }
@@ -89,13 +89,13 @@ module _ {Z : Type 0} (xs ys : List (Reply (String Z))) where
 
   -- if the lists have different lengths, the shorter one ends at a place that the longer one has
   pub ends_differ : (n : ℕ) → n ≡ min (length xs) (length ys) → length xs ≢ length ys
-      → slice_get (list_map told xs) n ≢ slice_get (list_map told ys) n
+      → slice_get (list_map reply_told xs) n ≢ slice_get (list_map reply_told ys) n
   ends_differ n shorter lengths same = grind (
     arith,
-    turned_none told xs n,
-    turned_none told ys n,
-    turned_past told xs n,
-    turned_past told ys n,
+    turned_none reply_told xs n,
+    turned_none reply_told ys n,
+    turned_past reply_told xs n,
+    turned_past reply_told ys n,
   )
 
   -- and if a call there failed to allocate, the other list has ended

@@ -6,7 +6,7 @@ use Rattle.std.proofs.lemmas.Option.{none-some, same_Some}
 use Rattle.std.proofs.lemmas.Str.Parse.{numerals_by_value, tells_digits}
 use Rattle.std.specs.Fmt.{decimal}
 use Rattle.std.specs.Str.Parse.{IsNumeral, ParsesUnsigned, digits_value, without_leading_plus}
-use Rattle.boxes_parts.proofs.numbers.line_number.Goals as goal
+use Rattle.boxes_script.proofs.numbers.line_number.Goals as goal
 
 -- the decimal text of a line's number begins above '0', and is read as that number
 begins : (word : List ℕ) (n : ℕ)

@@ -1,5 +1,5 @@
-use Rattle.boxes_parts.specs.Told.{AreSameBelow}
-use Rattle.boxes_parts.proofs.verdict.compare.Given as goal
+use Rattle.boxes_script.specs.Told.{AreSameBelow}
+use Rattle.boxes_script.proofs.verdict.compare.Given as goal
 
 -- the replies so far are the same, and none of the calls failed to allocate
 abbrev pub invariant-loop-place : goal.invariant-loop-place

@@ -1,7 +1,7 @@
-use Rattle.boxes_parts.proofs.{all_same, ends_differ, one_more, other_ends, same_at}
+use Rattle.boxes_script.proofs.{all_same, ends_differ, one_more, other_ends, same_at}
 use Rattle.std.proofs.Common.{arith, length, refl, sym, true≢false, ◌<◌, ◌∙◌}
 use Rattle.std.proofs.lemmas.Option.{slice_get_read}
-use Rattle.boxes_parts.proofs.verdict.compare.Goals as goal
+use Rattle.boxes_script.proofs.verdict.compare.Goals as goal
 
 pub loop-place-preserved : goal.loop-place-preserved
 loop-place-preserved c =
