@@ -1,6 +1,6 @@
 -- What the callers share.
 pub mod Common
-use Rattle.example_callers.specs.Table.{TableState}
+use Rattle.example_callers.specs.Table.{RowsState}
 unfoldable pub use Common.*
 
 -- ==== a shared value with two references, and what more callers share
@@ -55,7 +55,7 @@ module _ {T : Type 0} where
 -- ==== what a caller knows of a table, part by part
 
 pub same_table : {T : Type 0} {rows shown : List (Option T)} (next next' : ℕ) → rows ≡ shown
-    → next ≡ next' → ◌≡◌ {A = TableState T} (record { rows = rows; looks = last_ticket - next })
+    → next ≡ next' → ◌≡◌ {A = RowsState T} (record { rows = rows; looks = last_ticket - next })
     (record { rows = shown; looks = last_ticket - next' })
 same_table next next' same tickets = λ i. record {
   rows = same i;

@@ -12,7 +12,7 @@ ghost use Rattle.generational_core.specs.Machine.Action.{Read};
 ghost use Rattle.generational_core.specs.Machine.Answer.{Refused};
 ghost use Rattle.generational_core.specs.Seeing.{value_in};
 ghost use Rattle.generational_core.specs.Steps.{Meets, last_ticket};
-ghost use Rattle.generational_sessions.specs.PlainStores.{IsPlain};
+ghost use Rattle.generational_laws.specs.PlainStores.{HasNoReferences};
 
 use generational_box::{GenerationalBox, Location, Storage, StoreError};
 
@@ -61,8 +61,8 @@ pub fn count_up<S: Storage<u64>>(store: &mut S, counter: GenerationalBox<u64>) -
 
 /// Sets the value of a box of a store without references. Each box of another name keeps its value.
 pub fn set_plain<S: Storage<u64>>(store: &mut S, given: GenerationalBox<u64>, value: u64) -> bool
-    requires { IsPlain (S.state store.old) }
-    ensures plain { IsPlain (S.state store.new) }
+    requires { HasNoReferences (S.state store.old) }
+    ensures plain { HasNoReferences (S.state store.new) }
     ensures others { (b : GenerationalPointer) → name_of (pointer_of given) ≢ name_of b →
         IsUnchanged (S.state store.old) b (S.state store.new) }
 {

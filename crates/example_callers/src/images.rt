@@ -3,7 +3,7 @@
 ghost use Rattle.std.specs.Prelude.{◌≡◌, ◌≢◌, Some, None, IfOk, IfErr, IfSome};
 ghost use Rattle.generational_core.specs.Texts.{id_text};
 ghost use Rattle.generational_core.specs.declared.boxes.GenerationalBoxId.{GenerationalBoxId};
-ghost use Rattle.generational_box.specs.Images.{told, IsStateCopy, IsWhole};
+ghost use Rattle.generational_box.specs.Images.{told, IsStateCopy, IsWholeImage};
 ghost use Rattle.generational_box.specs.Images.{adopted};
 
 use generational_box::{
@@ -19,7 +19,7 @@ pub fn load_again<T: Drop, P: SlotPool>(
 ) -> Result<Store<T, P>, Image<T>>
     ensures same { IfOk result (λ again. again.state ≡ store.state) }
     ensures kept { IfErr result (λ image. told image ≡ store.state) }
-    ensures whole { IfErr result IsWhole }
+    ensures whole { IfErr result IsWholeImage }
 {
     let image = match store.into_image() {
         Ok(image) => image,
@@ -49,7 +49,7 @@ pub fn load_whole<T: Drop, P: SlotPool>(
     alloc: Global,
     image: Image<T>,
 ) -> Result<Store<T, P>, Image<T>>
-    requires { IsWhole image }
+    requires { IsWholeImage image }
     ensures loaded { IfOk result (λ store. store.state ≡ told image) }
     ensures back { IfErr result (λ back. back ≡ image) }
 {

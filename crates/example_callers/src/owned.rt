@@ -11,8 +11,8 @@ ghost use Rattle.generational_core.specs.Machine.Action.{ReleaseOwner};
 ghost use Rattle.generational_core.specs.Names.{among};
 ghost use Rattle.generational_core.specs.State.{Ownership};
 ghost use Rattle.generational_core.specs.Steps.{Meets};
-ghost use Rattle.generational_sessions.specs.Lacking.{Lacks};
-ghost use Rattle.generational_sessions.specs.ListedOnce.{AreListedOnce};
+ghost use Rattle.generational_laws.specs.Lacking.{Lacks};
+ghost use Rattle.generational_laws.specs.ListedOnce.{AreListedOnce};
 
 use generational_box::{
     BorrowMutError, GenerationalBox, Location, Owner, Refusal, Refused, Storage, StoreError,

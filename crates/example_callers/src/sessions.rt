@@ -13,7 +13,7 @@ ghost use Rattle.generational_sessions.specs.Session.Held.{Boxed};
 ghost use Rattle.generational_sessions.specs.Session.SessionReply.{Error};
 ghost use Rattle.generational_sessions.specs.Places.{as_reply, as_replies};
 ghost use Rattle.generational_sessions.specs.Numbered.{answers, erase, refusal_in, empty_session};
-ghost use Rattle.generational_sessions.specs.Replies.{refuses};
+ghost use Rattle.generational_sessions.specs.Replies.{tells_error};
 ghost use Rattle.generational_sessions.specs.declared.calls.BoxAt.TheVariants.{Place};
 ghost use Rattle.generational_sessions.specs.declared.calls.Call.TheVariants.{TryRead, TryWrite};
 ghost use Rattle.example_callers.specs.Sessions.{session_over};
@@ -79,7 +79,7 @@ pub fn carries_out<S: Storage<u64>>(
     call: Call<u64>,
 ) -> Result<bool, Call<u64>>
     ensures step { IfOk result (λ carried. (reply : SessionReply ℕ)
-        × SessionStep session.old call reply session.new × (refuses reply ≡ not carried)) }
+        × SessionStep session.old call reply session.new × (tells_error reply ≡ not carried)) }
     ensures refused { IfOk result (λ carried.
         IsFalse carried → session.new.state ≡ session.old.state) }
     ensures back { IfErr result (λ back. back ≡ call) }
@@ -91,7 +91,7 @@ pub fn carries_out<S: Storage<u64>>(
 
 /// Whether a reply is an error.
 pub fn is_refusal(reply: &Reply<u64>) -> bool
-    ensures { result ≡ refuses (as_reply reply.now) }
+    ensures { result ≡ tells_error (as_reply reply.now) }
 {
     match reply {
         Reply::Error(_) | Reply::Store(_) | Reply::Back(_, _) => true,

@@ -5,7 +5,7 @@ ghost use Rattle.generational_core.specs.declared.boxes.GenerationalPointer.{Gen
 ghost use Rattle.generational_core.specs.Boxes.{name_of};
 ghost use Rattle.generational_core.specs.Leaving.{IsUnchanged};
 ghost use Rattle.generational_core.specs.State.{IsGiven};
-ghost use Rattle.generational_sessions.specs.Lacking.{IsShortage};
+ghost use Rattle.generational_laws.specs.Lacking.{IsShortage};
 
 use crate::values::{read_value, write_value};
 use generational_box::{BorrowMutResult, GenerationalBox, Location, Refused, Storage};

@@ -21,17 +21,17 @@ pub struct Table<T, S: Storage<T>> {
 impl<T, S: Storage<T>> Model for Table<T, S> {
     ghost use Rattle.std.specs.Prelude.{◌-◌};
     ghost use Rattle.generational_core.specs.Steps.{last_ticket};
-    ghost use Rattle.generational_sessions.specs.BoxRows.{values_in, AreKept};
-    ghost use Rattle.example_callers.specs.Table.{TableState};
+    ghost use Rattle.generational_laws.specs.BoxRows.{values_in, AreRowsKept};
+    ghost use Rattle.example_callers.specs.Table.{RowsState};
 
-    ghost Value = { TableState T };
+    ghost Value = { RowsState T };
 
     ghost view = { λ t. record {
       rows = values_in (S.state t.store) t.rows.items;
       looks = last_ticket - (S.state t.store).next;
     } };
 
-    ghost invariant = { λ t. AreKept (S.state t.store) t.rows.items };
+    ghost invariant = { λ t. AreRowsKept (S.state t.store) t.rows.items };
 }
 
 impl<T, S: Storage<T>> Table<T, S> {

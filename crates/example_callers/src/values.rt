@@ -10,7 +10,7 @@ ghost use Rattle.generational_core.specs.Machine.Action.{Read, Write};
 ghost use Rattle.generational_core.specs.Seeing.{value_in};
 ghost use Rattle.generational_core.specs.State.{IsGiven};
 ghost use Rattle.generational_core.specs.Steps.{Meets};
-ghost use Rattle.generational_sessions.specs.Lacking.{IsShortage};
+ghost use Rattle.generational_laws.specs.Lacking.{IsShortage};
 
 use generational_box::{
     BorrowMutResult, BorrowResult, GenerationalBox, Location, Refused, Storage,

@@ -5,7 +5,7 @@ ghost use Rattle.generational_core.specs.Answers.{pointer_of};
 ghost use Rattle.generational_core.specs.Machine.Action.{Make, NewOwner};
 ghost use Rattle.generational_core.specs.Seeing.{value_in};
 ghost use Rattle.generational_core.specs.Steps.{Meets};
-ghost use Rattle.generational_sessions.specs.Wrapping.{wrapped_answer, wrapped_owner_answer};
+ghost use Rattle.generational_laws.specs.Wrapping.{wrapped_answer, wrapped_owner_answer};
 
 use generational_box::{GenerationalBox, Location, Owner, Refusal, Storage, StoreError};
 

@@ -5,7 +5,7 @@ ghost use Rattle.std.specs.String.{string_bytes};
 ghost use Rattle.saved_bytes.specs.Images.{IsImageAgain};
 
 use crate::own::Hero;
-use generational_core::Location;
+use generational_core::{GenerationalBoxId, Location};
 use saved_bytes::{
     DecodeError, Decoder, Encoder, ReadError, Saved, WriteError, read_image, write_image,
 };
@@ -19,6 +19,18 @@ pub enum NotAgain {
     Write(WriteError),
     /// It can't be read.
     Read(ReadError),
+}
+
+impl From<WriteError> for NotAgain {
+    fn from(error: WriteError) -> NotAgain {
+        NotAgain::Write(error)
+    }
+}
+
+impl From<ReadError> for NotAgain {
+    fn from(error: ReadError) -> NotAgain {
+        NotAgain::Read(error)
+    }
 }
 
 /// A value, written as bytes and read back: its form is the same.
@@ -36,6 +48,14 @@ pub fn number_again(alloc: Global, number: u64) -> Result<u64, DecodeError>
     ensures { IfOk result (λ again. again ≡ number) }
 {
     let again = value_again(alloc, &number)?;
+    Ok(again)
+}
+
+/// An id, written and read back, is the same id.
+pub fn id_again(alloc: Global, id: GenerationalBoxId) -> Result<GenerationalBoxId, DecodeError>
+    ensures { IfOk result (λ again. again ≡ id) }
+{
+    let again = value_again(alloc, &id)?;
     Ok(again)
 }
 

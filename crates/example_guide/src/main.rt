@@ -1,13 +1,22 @@
-//! Runs the programs with which the pages begin, one after the other.
+//! The programs with which the pages begin, run one after the other.
 #![tactic(auto)]
 
+mod actors;
+mod dialog;
+mod idioms;
+mod memory;
+mod pages;
+mod saving;
+mod score;
+mod started;
 mod threads;
+mod values;
+mod window;
 
-use example_libraries::{
-    actors, dialog, idioms, memory, pages, prices, proving, saving, started, values, window,
-};
+use example_libraries::{prices, proving};
 
 fn main(rt: HostRuntime) -> anyhow::Result<()> {
+    score::main(rt)?;
     started::main(rt)?;
     values::main(rt)?;
     dialog::main(rt)?;

@@ -1,6 +1,6 @@
 //! Threads: sessions of a server, in a store that four workers share.
 
-ghost use Rattle.generational_sync.specs.Shared.{IsBlank};
+ghost use Rattle.shared_state.specs.Shared.{IsBlank};
 
 use anyhow::{Result, anyhow};
 use generational_box::{GenerationalBox, Location, Owner};

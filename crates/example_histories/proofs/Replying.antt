@@ -6,7 +6,7 @@ use proofs.Common.{Nothing, NumbersExhausted, Outcome, Ownership, refl, Refused,
 use proofs.Common.{take, take-append-drop, true, ℕ, [], ◌++◌, ◌↔◌, ◌∷◌, ◌≡◌}
 use proofs.Playing.{is_same, is_short, outcome, stage, taken, takes}
 use Rattle.example_histories.specs.SessionRows.{comes_to, Replies, SessionRow, TakesNew}
-use Rattle.generational_sessions.proofs.callers.carrying.Cells.sessions.{fresh_kept, session_kept}
+use Rattle.generational_sessions.proofs.Numbering.Calls.{fresh_kept, session_kept}
 use Rattle.generational_sessions.specs.Session.{ask, gives, Held, reply_of, Request, SessionReply}
 use Rattle.generational_sessions.specs.Session.{SessionState, settle, Settles, spend}
 use Rattle.generational_sessions.specs.Session.Request.{Asks, Swaps, Tells}

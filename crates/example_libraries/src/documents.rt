@@ -1,7 +1,7 @@
 //! Documents in which one part is in several places.
 
 ghost use Rattle.std.specs.Prelude.{◌≡◌, ◌≢◌, ◌<◌, ◌∷◌, None, Some, IfErr, IsErr, IsOk, OnOk, false, is_some, true};
-ghost use Rattle.document_tree.specs.Documents.{Place, content_of, created_at, is_site, part_in, shown_in, with_children, Leaves, WasMade};
+ghost use Rattle.document_tree.specs.Documents.{Place, content_shown, created_at, is_site, part_in, shown_in, with_children, Leaves, WasPlaced};
 ghost use Rattle.document_tree.specs.Parts.{is_full, too_many};
 ghost use Rattle.generational_core.specs.Slots.{free, slots};
 ghost use Rattle.generational_errors.specs.declared.error.Location.{Location};
@@ -18,10 +18,10 @@ pub fn change_heading<S: Storage<u32>>(
     content: u64,
     here: Location,
 ) -> Result<(), PlaceError>
-    requires { WasMade document.old heading }
+    requires { WasPlaced document.old heading }
     ensures shown { OnOk result (
-        content_of (shown_in document.new heading) ≡ Some content) }
-    ensures others { (q : Place) → WasMade document.old q → IsOther heading q →
+        content_shown (shown_in document.new heading) ≡ Some content) }
+    ensures others { (q : Place) → WasPlaced document.old q → IsOther heading q →
         Leaves document.old q document.new }
 {
     let Ok(next) = document.add(content, here) else {
@@ -86,7 +86,7 @@ pub fn told_after<S: Storage<u32>>(
     content: u64,
     here: Location,
 ) -> Result<u64, Stale>
-    requires { WasMade document.old place }
+    requires { WasPlaced document.old place }
     ensures gone { IsErr result }
     ensures told { (l : Location) → created_at document.old place ≡ Some l →
         IfErr result (λ stale. stale.created_at ≡ Some l) }

@@ -1,15 +1,15 @@
 //! Entities, and their handles.
 
-ghost use Rattle.std.specs.Prelude.{◌≡◌, ◌≤◌, ◌<◌, ◌+◌, ◌%◌, ◌^◌, ℕ, None, Some, IsErr, IfErr, OnOk, true};
+ghost use Rattle.std.specs.Prelude.{◌≡◌, ◌≤◌, ◌<◌, ◌+◌, ◌%◌, ◌^◌, ℕ, None, Some, IsErr, IfErr, OnOk, true, false};
 ghost use Rattle.std.specs.Prelude.{IfOk, IfSome, IsFalse, IsTrue, OnErr, is_some};
-ghost use Rattle.entity_table.specs.Components.{component_in};
+ghost use Rattle.entity_table.specs.Components.{component_in, sparse_in};
 ghost use Rattle.entity_table.specs.Tables.{Entity, created_at, element_in, WasSpawned};
 ghost use Rattle.generational_errors.specs.declared.error.Location.{Location};
 ghost use Rattle.handles.specs.Handles.{IsOther};
 
 use entity_table::{
-    AttachError, ComponentTable, Entity, EntityTable, Stale, changed_components, changed_elements,
-    changed_pairs, equal_entities_show_the_same,
+    AttachError, ComponentTable, Entity, EntityTable, PairError, SparseTable, Stale,
+    changed_components, changed_elements, changed_pairs, equal_entities_show_the_same,
 };
 use generational_box::{Location, Storage};
 
@@ -29,6 +29,28 @@ pub fn told_after<S: Storage<u64>>(
     let _ = table.despawn(first);
     let _ = table.spawn(next, here);
     table.get(first).copied()
+}
+
+/// Removes an entity with its components in two tables, and returns whether one of them still has one:
+/// none has, and every other component is unchanged.
+pub fn gone_with_all<S: Storage<u64>>(
+    table: &mut EntityTable<u64, S>,
+    components: &mut (ComponentTable<u64, u64>, ComponentTable<u64, bool>),
+    entity: Entity<u64>,
+) -> Result<bool, Stale>
+    ensures none { IfOk result (λ any. any ≡ false) }
+    ensures others { (e : Entity ℕ) → IsOther entity e →
+        component_in components.new.0 e ≡ component_in components.old.0 e }
+{
+    table.despawn_with(entity, components)?;
+    Ok(components.0.contains(entity) || components.1.contains(entity))
+}
+
+/// Drops the components above a limit. None is above it then.
+pub fn dropped_above(components: &mut ComponentTable<u64, u64>, limit: u64)
+    ensures { (e : Entity ℕ) (c : ℕ) → component_in components.new e ≡ Some c → c ≤ limit }
+{
+    components.retain(|component: &u64| *component <= limit);
 }
 
 /// The greatest element of the live entities, or 0 if none is live.
@@ -78,6 +100,69 @@ pub fn within_limits<E: Storage<u64>>(
     true
 }
 
+/// Whether no live entity's component is greater than its element, if few entities have one.
+pub fn rare_within_limits<E: Storage<u64>>(
+    limits: &EntityTable<u64, E>,
+    uses: &SparseTable<u64, u64>,
+) -> bool
+    ensures { IsTrue result → (e : Entity ℕ) (limit used : ℕ) → element_in limits.now e ≡ Some limit →
+        sparse_in uses.now e ≡ Some used → used ≤ limit }
+{
+    'walk: for (_, limit, used) in uses.join(limits) {
+        if *used > *limit {
+            return false;
+        }
+    }
+    true
+}
+
+/// Whether no entity's component in a table for few is greater than the one that it has in another.
+pub fn rare_within<T>(uses: &SparseTable<T, u64>, limits: &ComponentTable<T, u64>) -> bool
+    ensures { IsTrue result → (e : Entity T) (limit used : ℕ) → component_in limits.now e ≡ Some limit →
+        sparse_in uses.now e ≡ Some used → used ≤ limit }
+{
+    'walk: for (_, limit, used) in uses.join_with(limits) {
+        if *used > *limit {
+            return false;
+        }
+    }
+    true
+}
+
+/// Gives a live entity a component that few have, and removes the entity with it.
+pub fn gone_with_rare<S: Storage<u64>>(
+    table: &mut EntityTable<u64, S>,
+    rare: &mut SparseTable<u64, u64>,
+    entity: Entity<u64>,
+    component: u64,
+) -> Option<u64>
+    ensures had { IfSome result (λ seen. seen ≡ component) }
+    ensures gone { IfSome result (λ _. sparse_in rare.new entity ≡ None) }
+    ensures others { (e : Entity ℕ) → IsOther entity e → sparse_in rare.new e ≡ sparse_in rare.old e }
+{
+    rare.attach(table, entity, component).ok()?;
+    let seen = rare.get(entity).copied();
+    let Ok(()) = table.despawn_with(entity, rare) else {
+        return None;
+    };
+    seen
+}
+
+/// Makes room for more entities, and for their components, and returns whether there was memory for it:
+/// every entity and every component is unchanged.
+pub fn has_room_for<S: Storage<u64>>(
+    table: &mut EntityTable<u64, S>,
+    components: &mut ComponentTable<u64, u64>,
+    more: usize,
+) -> bool
+    ensures same { table.new ≡ table.old }
+    ensures components { (e : Entity ℕ) →
+        component_in components.new e ≡ component_in components.old e }
+{
+    let slots = table.slots().saturating_add(more);
+    table.reserve(more).is_ok() && components.reserve(slots).is_ok()
+}
+
 /// Adds to an entity's element in place, and returns the sum.
 pub fn grown<S: Storage<u64>>(
     table: &mut EntityTable<u64, S>,
@@ -95,6 +180,24 @@ pub fn grown<S: Storage<u64>>(
     table.update(entity, |element: &mut u64| {
         *element += more;
         *element
+    })
+}
+
+/// Exchanges the components of two entities.
+pub fn exchanged(
+    components: &mut ComponentTable<u64, u64>,
+    first: Entity<u64>,
+    second: Entity<u64>,
+) -> Result<(), PairError>
+    ensures exchanged { OnOk result ((component_in components.new first ≡ component_in components.old second)
+        × (component_in components.new second ≡ component_in components.old first)) }
+    ensures others { (e : Entity ℕ) → IsOther first e → IsOther second e →
+        component_in components.new e ≡ component_in components.old e }
+{
+    components.update2(first, second, |one: &mut u64, other: &mut u64| {
+        let before = *one;
+        *one = *other;
+        *other = before;
     })
 }
 

@@ -1,18 +1,22 @@
 //! Sources, memos and effects.
 
-ghost use Rattle.std.specs.Prelude.{◌≡◌, ◌≢◌, ℕ, ◌+◌, ◌%◌, ◌^◌, ◌<◌, [], ◌∷◌, IfOk, OnOk, Result};
+ghost use Rattle.std.specs.Prelude.{◌≡◌, ◌≢◌, ℕ, ◌+◌, ◌%◌, ◌^◌, ◌<◌, [], ◌∷◌, IfOk, IsTrue, List, OnOk, Result, Some, true};
+ghost use Rattle.std.specs.List.{Contains};
 ghost use Rattle.example_libraries.specs.Formulas.{plan_of};
 ghost use Rattle.reactive.specs.declared.fault.Fault.{Fault};
-ghost use Rattle.reactive.specs.Hearing.{Says};
+ghost use Rattle.reactive.specs.declared.key.Key.{Key};
+ghost use Rattle.reactive.specs.Hearing.{Says, named_key};
 ghost use Rattle.reactive.specs.Graphs.{kind_in, plans_in};
-ghost use Rattle.reactive.specs.Ending.{IsAmong};
+ghost use Rattle.reactive.specs.Ending.{IsKeyAmong};
 ghost use Rattle.reactive.specs.Graphs.Kind.{NoNode, Source};
 ghost use Rattle.reactive.specs.Meaning.{Means, Reaches};
 ghost use Rattle.reactive.specs.Plans.{Ask, Give};
+ghost use Rattle.reactive.specs.Reading.{CameFrom};
+ghost use Rattle.reactive.specs.Watching.{effect_at};
 
 use generational_box::{Location, Storage, StoreError};
 use reactive::laws::{flushes_tell_what_is_meant, nodes_mean_one_value, sets_show_in_memos};
-use reactive::{Effects, Fault, Key, Node, Reactive, Reads, Rule, Scope, Told};
+use reactive::{Fault, Key, Node, Reactive, Reads, Rule, Scope, Told};
 use std::alloc::Global;
 
 /// What a memo computes of other nodes.
@@ -70,10 +74,9 @@ pub fn odd_after_set<S: Storage<Node<u64, Formula>>>(
     ensures { IfOk result (λ v. v ≡ x % 2) }
 {
     sets_show_in_memos::<u64, Formula>();
-    match graph.set(source, x) {
-        Ok(()) => graph.get(odd),
-        Err(fault) => Err(fault),
-    }
+    graph.set(source, x)?;
+    let shown = graph.get(odd)?;
+    Ok(shown)
 }
 
 /// Sets two sources, and gets a memo of their sum: that of the values that were set.
@@ -91,10 +94,36 @@ pub fn sum_after_sets<S: Storage<Node<u64, Formula>>>(
     requires second { sum ≢ other }
     ensures { IfOk result (λ v. v ≡ (x + y) % 2 ^ 64) }
 {
-    nodes_mean_one_value::<u64>();
+    sets_show_in_memos::<u64, Formula>();
     graph.set(one, x)?;
     graph.set(other, y)?;
-    graph.get(sum)
+    let total = graph.get(sum)?;
+    Ok(total)
+}
+
+/// Sets two sources in one graph, and in the other order in another graph of the same plans: every memo
+/// means the same in both.
+pub fn same_in_both_orders<S: Storage<Node<u64, Formula>>>(
+    left: &mut Reactive<u64, Formula, S>,
+    right: &mut Reactive<u64, Formula, S>,
+    one: Key,
+    other: Key,
+    memo: Key,
+    x: u64,
+    y: u64,
+) -> Result<(u64, u64), Fault>
+    requires alike { plans_in plan_of left.old ≡ plans_in plan_of right.old }
+    requires apart { one ≢ other }
+    ensures { IfOk result (λ both. both.0 ≡ both.1) }
+{
+    sets_show_in_memos::<u64, Formula>();
+    left.set(one, x)?;
+    left.set(other, y)?;
+    right.set(other, y)?;
+    right.set(one, x)?;
+    let a = left.get(memo)?;
+    let b = right.get(memo)?;
+    Ok((a, b))
 }
 
 /// Brings two nodes up to date, and looks at the first: it is known still.
@@ -168,25 +197,84 @@ pub fn shown_by_both<S: Storage<Node<u64, Formula>>>(
     }
 }
 
-/// Watches a node, and flushes: if that succeeds, it reports one thing, what the node means.
+/// Watches a node, and flushes: if that succeeds, it reports what the node means, with the number.
 pub fn told_at_first<S: Storage<Node<u64, Formula>>>(
     graph: &mut Reactive<u64, Formula, S>,
     key: Key,
+    tag: u64,
     alloc: Global,
-) -> Result<Vec<Told<u64>>, StoreError>
-    ensures { IfOk result (λ told. (a : Result ℕ Fault) × Says (plans_in plan_of graph.old) key a
-        × (told.items ≡ record { key = key; answer = a } ∷ [])) }
+) -> Result<Vec<Told<u64>>, Fault>
+    ensures { IfOk result (λ told. (a : Result ℕ Fault)
+        × Says (plans_in plan_of graph.old) (kind_in graph.old) key a
+        × Contains told.items (record { key = key; tag = tag; answer = a })) }
 {
     flushes_tell_what_is_meant::<u64>();
-    let mut effects = Effects::new(alloc);
     let mut told = Vec::new(alloc);
-    match effects.watch(key) {
-        Ok(()) => {}
-        Err(_) => return Err(StoreError::OutOfMemory),
+    graph.watch(key, tag)?;
+    graph.flush(&mut told)?;
+    Ok(told)
+}
+
+/// Watches a node, unless it is watched already.
+pub fn watched_once<S: Storage<Node<u64, Formula>>>(
+    graph: &mut Reactive<u64, Formula, S>,
+    key: Key,
+    tag: u64,
+) -> Result<(), Fault>
+    ensures { OnOk result (named_key (effect_at graph.new.effects key.id.slot) ≡ Some key) }
+{
+    if !graph.is_watched(key) {
+        graph.watch(key, tag)?;
     }
-    match effects.flush(graph, &mut told) {
-        Ok(()) => Ok(told),
-        Err(cause) => Err(cause),
+    Ok(())
+}
+
+/// Stops watching a node. Every node's plan is unchanged.
+pub fn unwatched<S: Storage<Node<u64, Formula>>>(graph: &mut Reactive<u64, Formula, S>, key: Key)
+    ensures gone { named_key (effect_at graph.new.effects key.id.slot) ≢ Some key }
+    ensures plans { plans_in plan_of graph.new ≡ plans_in plan_of graph.old }
+{
+    graph.unwatch(key);
+}
+
+/// Whether a node that a source was made for is in the graph: it is.
+pub fn is_live_at_first<S: Storage<Node<u64, Formula>>>(
+    graph: &mut Reactive<u64, Formula, S>,
+    value: u64,
+    here: Location,
+) -> Result<bool, StoreError>
+    ensures { IfOk result (λ is_live. is_live ≡ true) }
+{
+    let key = graph.source(value, here)?;
+    Ok(graph.is_live(key))
+}
+
+/// The nodes that a memo's value came from: those that its plan reads, in order.
+pub fn parts<'a, S: Storage<Node<u64, Formula>>>(
+    graph: &'a mut Reactive<u64, Formula, S>,
+    memo: Key,
+) -> Result<&'a [Key], Fault>
+    ensures { IfOk result (λ parts. (v : ℕ) × CameFrom (plans_in plan_of graph.old) memo parts.now v) }
+{
+    graph.refresh(memo)?;
+    match graph.reads(memo) {
+        Some(parts) => Ok(parts),
+        None => unreachable!(),
+    }
+}
+
+/// Whether a node's value came from another: false also if it isn't known.
+pub fn is_reader<S: Storage<Node<u64, Formula>>>(
+    graph: &Reactive<u64, Formula, S>,
+    node: Key,
+    read: Key,
+) -> bool
+    ensures { IsTrue result → (parts : List Key) × (v : ℕ)
+        × CameFrom (plans_in plan_of graph.now) node parts v × Contains parts read }
+{
+    match graph.reads(node) {
+        Some(parts) => parts.iter().any(|part: &Key| *part == read),
+        None => false,
     }
 }
 
@@ -243,7 +331,7 @@ fn double_in<S: Storage<Node<u64, Formula>>>(
     requires { scope.old ≡ [] }
     ensures others { (k : Key) → kind_in graph.old k ≢ NoNode →
         plans_in plan_of graph.new k ≡ plans_in plan_of graph.old k }
-    ensures new { (k : Key) → kind_in graph.old k ≢ NoNode → IsAmong k scope.new → ⊥ }
+    ensures new { (k : Key) → kind_in graph.old k ≢ NoNode → IsKeyAmong k scope.new → ⊥ }
 {
     let here = Location::new("memos.rt", 217, 16);
     let source = scope.source(graph, number, here)?;

@@ -92,8 +92,7 @@ pub fn twice_after_set<S: Storage<Node<Text, Phrase>>>(
     ensures { IfOk result (λ shown. shown ≡ text ++ text) }
 {
     sets_show_in_memos::<Text, Phrase>();
-    match graph.set(source, text) {
-        Ok(()) => graph.get(twice),
-        Err(fault) => Err(fault),
-    }
+    graph.set(source, text)?;
+    let shown = graph.get(twice)?;
+    Ok(shown)
 }

@@ -4,7 +4,7 @@ ghost use Rattle.example_libraries.specs.Prices.{plan_of};
 
 use anyhow::Result;
 use generational_box::{Location, Storage, UnsyncStorage};
-use reactive::{Effects, Key, Node, Reactive, Reads, Rule};
+use reactive::{Key, Node, Reactive, Reads, Rule};
 use std::alloc::Global;
 
 /// What a memo computes from two nodes.
@@ -71,7 +71,7 @@ fn change<R: Print, S: Storage<Node<u64, Formula>>>(
     Ok(())
 }
 
-// An effect reports the changes of its node.
+// A watched node is reported, with a number of ours, if it means something else.
 fn watch<R: Print, S: Storage<Node<u64, Formula>>>(
     rt: &R,
     alloc: Global,
@@ -79,16 +79,15 @@ fn watch<R: Print, S: Storage<Node<u64, Formula>>>(
     postage: Key,
     total: Key,
 ) -> Result<()> {
-    let mut effects = Effects::new(alloc);
     let mut told = Vec::new(alloc);
-    effects.watch(total)?;
-    effects.flush(graph, &mut told)?;
+    graph.watch(total, 7)?;
+    graph.flush(&mut told)?;
     graph.set(postage, 0)?;
-    effects.flush(graph, &mut told)?;
+    graph.flush(&mut told)?;
     for change in told.iter() {
-        println!(rt; "told: {:?}", change.answer)?;
+        println!(rt; "told {}: {:?}", change.tag, change.answer)?;
     }
-    effects.unwatch(total);
+    graph.unwatch(total);
     Ok(())
 }
 

@@ -15,7 +15,7 @@ ghost use Rattle.generational_core.specs.Seeing.{value_in};
 ghost use Rattle.generational_core.specs.State.{State};
 ghost use Rattle.generational_core.specs.Steps.{Meets, last_ticket};
 ghost use Rattle.signals.specs.Scopes.{HasSignals};
-ghost use Rattle.signals.specs.Signals.{pointer_in};
+ghost use Rattle.signals.specs.Signals.{signal_pointer};
 
 use generational_box::{BorrowMutResult, Location, Storage};
 use signals::{Scope, Signal};
@@ -103,13 +103,13 @@ pub fn set_source<S: Storage<u64>>(
     here: Location,
 ) -> BorrowMutResult<u64>
     ensures set { IfOk result (λ seen. seen ≡ value) }
-    ensures others { (b : GenerationalPointer) → name_of (pointer_in signal) ≢ name_of b →
-        reach (S.state store.old) b ≢ reach (S.state store.old) (pointer_in other) →
+    ensures others { (b : GenerationalPointer) → name_of (signal_pointer signal) ≢ name_of b →
+        reach (S.state store.old) b ≢ reach (S.state store.old) (signal_pointer other) →
         IsUnchanged (S.state store.old) b (S.state store.new) }
     // It fails like `swap_source`, like the write after it, or like a read when the tickets are used up.
     ensures refused { IfErr result (λ refusal.
-        let turn : Action ℕ = Point (pointer_in signal) (pointer_in other) in
-        let write : Action ℕ = Write (pointer_in signal) here in
+        let turn : Action ℕ = Point (signal_pointer signal) (signal_pointer other) in
+        let write : Action ℕ = Write (signal_pointer signal) here in
         Meets (S.state store.old) turn (end_refused refusal) (S.state store.new)
         ⊎ ((turned : State ℕ) × Meets (S.state store.old) turn Done turned
         × Meets turned write (end_refused refusal) (S.state store.new))
@@ -132,14 +132,14 @@ pub fn count_up<S: Storage<u64>>(
     here: Location,
 ) -> BorrowMutResult<u64>
     ensures counted { IfOk result (λ seen. (old : ℕ) ×
-        (value_in (S.state store.old) (pointer_in signal) ≡ Some old) ×
+        (value_in (S.state store.old) (signal_pointer signal) ≡ Some old) ×
         (seen ≡ (old + 1) % 2 ^ 64)) }
     ensures others { (b : GenerationalPointer) →
-        reach (S.state store.old) b ≢ reach (S.state store.old) (pointer_in signal) →
+        reach (S.state store.old) b ≢ reach (S.state store.old) (signal_pointer signal) →
         IsUnchanged (S.state store.old) b (S.state store.new) }
     // It fails like the write, or like a read when the tickets are used up.
     ensures refused { IfErr result (λ refusal.
-        Meets (S.state store.old) (Write (pointer_in signal) here) (end_refused refusal)
+        Meets (S.state store.old) (Write (signal_pointer signal) here) (end_refused refusal)
         (S.state store.new)
         ⊎ ((refusal ≡ refused.Store NumbersExhausted)
         × ((S.state store.new).next ≡ last_ticket))) }

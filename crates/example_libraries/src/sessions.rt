@@ -6,7 +6,7 @@ ghost use Rattle.generational_errors.specs.declared.error.Location.{Location};
 ghost use Rattle.handles.specs.Handles.{IsOther};
 ghost use Rattle.session_table.specs.Sessions.{Entry, LiveSession, entry_in, if_young};
 ghost use Rattle.std.specs.Map.{lookup};
-ghost use Rattle.session_table.specs.Tables.{created_at, keeps, session_in, shown_in, value_at, WasPut};
+ghost use Rattle.session_table.specs.Tables.{created_at, keeps, session_in, shown_in, value_under, WasPut};
 
 use generational_box::{Location, Storage};
 use session_table::{Entry, Session, SessionTable, Stale};
@@ -169,9 +169,95 @@ pub fn got_by_key<S: Storage<u64>>(
     id: u64,
     key: u64,
 ) -> Option<u64>
-    ensures { result ≡ value_at (nat_eq id) (nat_eq key) table.now }
+    ensures { result ≡ value_under (nat_eq id) (nat_eq key) table.now }
 {
     table.get_at(&id, &key).copied()
+}
+
+/// The entry that a session has under a key. If it had none, a first value was put there; if it had one,
+/// nothing changes.
+pub fn entry_or_put<S: Storage<u64>>(
+    table: &mut SessionTable<u64, u64, u64, S>,
+    at: (u64, u64),
+    first: u64,
+    here: Location,
+) -> Option<Entry<u64>>
+    ensures found { (e : Entry ℕ) →
+        entry_in nat_eq (session_in nat_eq table.old at.0) at.1 ≡ Some e → result ≡ Some e }
+    ensures same { is_some (entry_in nat_eq (session_in nat_eq table.old at.0) at.1) ≡ true →
+        table.new ≡ table.old }
+{
+    table.get_or_put(&at.0, at.1, first, here).ok()
+}
+
+/// Sets the value that a session has under a key, or puts it there. Returns what its entry reads then, and
+/// the value before.
+pub fn set_by_key<S: Storage<u64>>(
+    table: &mut SessionTable<u64, u64, u64, S>,
+    at: (u64, u64),
+    value: u64,
+    here: Location,
+) -> Option<(u64, Option<u64>)>
+    ensures same { IfSome result (λ r. r.0 ≡ value) }
+    ensures before { IfSome result (λ r. r.1 ≡ value_under (nat_eq at.0) (nat_eq at.1) table.old) }
+{
+    let (entry, before) = table.upsert(&at.0, at.1, value, here).ok()?;
+    let seen = table.get(entry).copied().ok()?;
+    Some((seen, before))
+}
+
+/// Replaces an entry's value, and returns the one before.
+pub fn replaced<S: Storage<u64>>(
+    table: &mut SessionTable<u64, u64, u64, S>,
+    entry: Entry<u64>,
+    value: u64,
+) -> Option<u64>
+    ensures { result ≡ shown_in table.old entry }
+{
+    table.replace(entry, value).ok()
+}
+
+/// Removes and returns what a session has under a key, in order, or so that the last entry takes its
+/// place.
+pub fn taken_from<S: Storage<u64>>(
+    table: &mut SessionTable<u64, u64, u64, S>,
+    at: (u64, u64),
+    in_order: bool,
+) -> Option<u64>
+    ensures taken { (e : Entry ℕ) →
+        entry_in nat_eq (session_in nat_eq table.old at.0) at.1 ≡ Some e →
+        result ≡ shown_in table.old e }
+    ensures others { (other : ℕ) → nat_eq at.0 other ≡ false →
+        session_in nat_eq table.new other ≡ session_in nat_eq table.old other }
+{
+    if in_order {
+        table.shift_remove(&at.0, &at.1)
+    } else {
+        table.remove(&at.0, &at.1)
+    }
+}
+
+/// Ends the session that an entry is in, and returns its id. The entry is stale then.
+pub fn ended_by_entry<S: Storage<u64>>(
+    table: &mut SessionTable<u64, u64, u64, S>,
+    entry: Entry<u64>,
+) -> Option<u64>
+    ensures kept { IfSome result (λ id. keeps nat_eq table.old id entry ≡ true) }
+    ensures gone { shown_in table.new entry ≡ None }
+{
+    let id = *table.session_of(entry).ok()?;
+    let _ = table.logout(&id);
+    Some(id)
+}
+
+/// Makes room for more sessions, and returns whether there was memory for it: every session is unchanged.
+pub fn has_room_for<S: Storage<u64>>(
+    table: &mut SessionTable<u64, u64, u64, S>,
+    more: usize,
+) -> bool
+    ensures { (id : ℕ) → session_in nat_eq table.new id ≡ session_in nat_eq table.old id }
+{
+    table.reserve(more).is_ok()
 }
 
 /// Ends the sessions that were last used before a time, passes their ids to a closure, and returns whether

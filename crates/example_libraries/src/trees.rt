@@ -1,6 +1,6 @@
 //! Trees, and handles of their nodes.
 
-ghost use Rattle.std.specs.Prelude.{◌≡◌, ◌≤◌, ◌⊎◌, ◌∷◌, slice_get, ◌++◌, [], List, ℕ, Err, IfOk, IsErr, None, OnOk, IfSome, Some};
+ghost use Rattle.std.specs.Prelude.{true, ◌≡◌, ◌≤◌, ◌⊎◌, ◌∷◌, slice_get, ◌++◌, [], List, ℕ, Err, IfOk, IsErr, None, OnOk, IfSome, Some};
 ghost use Rattle.generational_errors.specs.declared.error.StoreError.TheVariants.{OutOfMemory};
 ghost use Rattle.scene_tree.specs.declared.node.TreeError.TheVariants as error;
 ghost use Rattle.generational_errors.specs.declared.error.Location.{Location};
@@ -8,6 +8,7 @@ ghost use Rattle.handles.specs.Handles.{IsOther};
 ghost use Rattle.scene_tree.specs.Nodes.{Node, without};
 ghost use Rattle.scene_tree.specs.Trees.{IsBelow, NodeIsUnchanged, WasMade, children_of, created_at, outline_of, parent_of};
 ghost use Rattle.scene_tree.specs.Trees.{value_of};
+ghost use Rattle.scene_tree.specs.Siblings.{previous_in, siblings_of};
 
 use generational_box::{HandedBack, Location, Storage};
 use scene_tree::{Node, SceneTree, Spot, Stale, TreeError};
@@ -73,6 +74,13 @@ pub fn last_child<S: Storage<u64>>(
         last = Some(child);
     }
     Ok(last)
+}
+
+/// Whether a node is the first of its siblings: a root is.
+pub fn is_first<S: Storage<u64>>(tree: &SceneTree<u64, S>, node: Node<u64>) -> Result<bool, Stale>
+    ensures { IfOk result (λ first. first ≡ true → previous_in node (siblings_of tree.now node) ≡ None) }
+{
+    Ok(tree.previous_sibling(node)?.is_none())
 }
 
 /// The greatest value that a node shows, or 0 where there is no node.

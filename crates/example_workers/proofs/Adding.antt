@@ -5,7 +5,7 @@ use Rattle.std.proofs.lemmas.Grind.{common_steps}
 use Rattle.shared_history.specs.Counts.{Counts, merged, new_tally, new_tallies}
 use Rattle.generational_core.specs.Machine.{Action}
 use Rattle.generational_core.specs.Machine.Answer.{Refused}
-use Rattle.generational_sync.specs.Shared.{IsUnseenStep}
+use Rattle.shared_state.specs.Shared.{IsUnseenStep}
 use Rattle.generational_errors.specs.declared.error.StoreError.{StoreError}
 use Rattle.generational_errors.specs.declared.error.StoreError.TheVariants.{OutOfMemory}
 use Rattle.generational_errors.specs.declared.error.StoreError.TheVariants.{NumbersExhausted}

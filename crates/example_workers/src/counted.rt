@@ -2,11 +2,11 @@
 
 ghost use Rattle.std.specs.Prelude.{◌≡◌, ◌+◌, true, false, IfOk, length, sum};
 ghost use Rattle.shared_history.specs.Bases.{trimmed_of};
-ghost use Rattle.shared_records.specs.Kinds.{count};
+ghost use Rattle.shared_records.specs.Kinds.{count_of_kind};
 ghost use Rattle.shared_records.specs.declared.step.Kind.TheVariants.{Made};
 
 use generational_box::{Location, StoreError};
-use generational_workers::{Base, Job, Service, Step, Worker, run_workers};
+use generational_workers::{Base, Job, Service, Step, Worker, run_alone, run_workers};
 use std::alloc::Global;
 use std::sync::Wait;
 use std::thread::Threads;
@@ -77,9 +77,23 @@ pub fn fill<H: Threads + Wait + Sync>(
     workers: u32,
     each: u32,
 ) -> Result<(u64, Base, Vec<Step>), StoreError>
-    ensures { IfOk result (λ r. r.0 ≡ trimmed_of Made r.1 + count Made r.2.items) }
+    ensures { IfOk result (λ r. r.0 ≡ trimmed_of Made r.1 + count_of_kind Made r.2.items) }
 {
     let served = run_workers::<u64, Filling, H>(rt, alloc, workers, &Filling { each })?;
+    let stored = total(workers, served.answers);
+    Ok((stored, served.base, served.steps))
+}
+
+/// The same without threads: the workers store numbers one after another.
+pub fn fill_alone(
+    alloc: Global,
+    workers: u32,
+    each: u32,
+) -> Result<(u64, Base, Vec<Step>), StoreError>
+    ensures { IfOk result (λ r. r.0 ≡ trimmed_of Made r.1 + count_of_kind Made r.2.items) }
+{
+    let run = run_alone::<u64, Filling>(alloc, workers, &Filling { each });
+    let served = run.outcome?;
     let stored = total(workers, served.answers);
     Ok((stored, served.base, served.steps))
 }

@@ -1,6 +1,8 @@
 //! Runs the programs of the page on threads.
 #![tactic(auto)]
 
+#[cfg(test)]
+mod alone;
 mod counted;
 mod sessions;
 mod steady;

@@ -19,7 +19,7 @@ pub fn main<H: Threads + Wait + Print + AllocGlobal + Sync>(rt: &H) -> Result<()
     Ok(())
 }
 
-struct Server;
+pub struct Server;
 
 impl Job<u64> for Server {
     type Shared = GenerationalBox<u64>;

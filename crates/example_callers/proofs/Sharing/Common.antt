@@ -23,15 +23,17 @@ pub use specs.{Steps.Meets, Names.Name, Boxes.name_of, Machine.OwnerName, Machin
 pub use specs.{State.Ownership, Answers.pointer_of, Borrowing.reach, State.State, Seeing.value_in}
 pub use specs.{Answers.WriteGuard, Machine.Answer.Writes}
 pub use Rattle.generational_errors.specs.declared.{error.Location.Location, error.Refusal.Refusal}
-use Rattle.generational_sessions.proofs.callers
+use Rattle.generational_laws.proofs.callers
 pub use callers.{each_at, empty_again, ended_next, ended_row, found_sees, free_read_lacks}
 pub use callers.{left_given, left_still, left_twice, made_last, made_next, make_lacks, make_short}
 pub use callers.{none_so, on_ok_so, reach_apart, read_beside, read_short, refer_short}
 pub use callers.{referred_free, referred_next, release_beside, set_free, share_short, shared_apart}
 pub use callers.{shares, shown_at, some_so, stays_listed, stays_plain, taken_seen, write_short}
 pub use callers.{written_by}
-pub use Rattle.generational_sessions.specs.{Places.as_replies, Session.box_held, BoxRows.IsFree}
-pub use Rattle.generational_sessions.specs.{Session.Run, BoxRows.shown_in}
+pub use Rattle.generational_laws.specs.{BoxRows.IsFree}
+pub use Rattle.generational_sessions.specs.{Places.as_replies, Session.box_held}
+pub use Rattle.generational_laws.specs.{BoxRows.shown_in}
+pub use Rattle.generational_sessions.specs.{Session.Run}
 pub use Rattle.std.proofs.Common.{ap, arith, Err, false, IfNone, IfSome, List, None, Ok, Option}
 pub use Rattle.std.proofs.Common.{refl, rules, slice_get, Some, subst, sym, true, ℕ, [], ⊎_elim}
 pub use Rattle.std.proofs.{lemmas.Grind.common_steps, lemmas.Option.IfSome_then}

@@ -4,8 +4,8 @@ pub use Rattle.handles.specs.Handles.{IsOther}
 pub use Rattle.generational_core.proofs.machine.Calls.{keeps_free}
 pub use Rattle.generational_core.specs.Leaving.{IsUnchanged}
 pub use Rattle.generational_errors.specs.Texts.{as_refused_mut}
-pub use Rattle.generational_sessions.proofs.callers.{err_so, get_pushed, left_ticket, left_twice}
-pub use Rattle.generational_sessions.proofs.callers.{read_short, same_id_sees, set_free}
+pub use Rattle.generational_laws.proofs.callers.{err_so, get_pushed, left_ticket, left_twice}
+pub use Rattle.generational_laws.proofs.callers.{read_short, same_id_sees, set_free}
 pub use Rattle.reactive.specs.Graphs.{kind_in}
 pub use Rattle.scene_tree.proofs.Moving.Trees.Links.Forests.{is_id, times_apart}
 pub use Rattle.handles.specs.Handles.{is_same, pointer_in}

@@ -1,5 +1,5 @@
 use Rattle.example_libraries.proofs.{arith, common_steps, ◌∙◌}
-use Rattle.signals.specs.Signals.{pointer_in}
+use Rattle.signals.specs.Signals.{signal_pointer}
 use Rattle.example_libraries.proofs.scopes.alias_outlives.Goals as goal
 
 pub returns-in-Ok-end : goal.returns-in-Ok-end
@@ -8,5 +8,5 @@ returns-in-Ok-end g c =
     let alias = c.in-Ok-alias.ensures in
     let listed = made.listed _ c.requires.empty in
     let left = c.in-Ok-end.ensures.others _ (alias.scopes _ _ c.requires.apart listed)
-    (pointer_in c.in-Ok-alias.alias) (alias.unlisted _ _ listed) in
+    (signal_pointer c.in-Ok-alias.alias) (alias.unlisted _ _ listed) in
     let saw = left.seen ∙ (alias.seen ∙ made.seen) in grind (arith, common_steps)

@@ -1,6 +1,6 @@
 use Rattle.std.proofs.Common.{ap, ◌∙◌}
 use Rattle.generational_box.proofs.images.{same_state}
-use Rattle.generational_sessions.specs.History.{plain}
+use Rattle.generational_laws.specs.History.{plain}
 use Rattle.example_restarts.proofs.restarts.gone_on.Goals as goal
 
 pub returns-in-Ok-from_image-clause-same : goal.returns-in-Ok-from_image-clause-same

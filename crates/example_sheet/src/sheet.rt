@@ -3,7 +3,7 @@
 use crate::formula::Formula;
 use anyhow::{Result, anyhow, bail, ensure};
 use generational_box::{Location, Storage};
-use reactive::{Effects, Fault, Key, Node, Reactive, Told};
+use reactive::{Fault, Key, Node, Reactive};
 use std::alloc::Global;
 use std::collections::BTreeMap;
 use std::fmt::Write;
@@ -16,11 +16,10 @@ struct Cell {
     parts: Vec<Key>,
 }
 
-/// Cells, and those that are watched.
+/// Cells, and the graph of their nodes.
 #[derive(Drop)]
 pub struct Sheet<G> {
     graph: G,
-    watched: Effects<u64>,
     cells: BTreeMap<String, Cell>,
     // those of the formula that is being read
     parts: Vec<Key>,
@@ -32,7 +31,6 @@ impl<S: Storage<Node<u64, Formula>>> Sheet<Reactive<u64, Formula, S>> {
     pub fn new(alloc: Global, graph: Reactive<u64, Formula, S>) -> Self {
         Sheet {
             graph,
-            watched: Effects::new(alloc),
             cells: BTreeMap::new(alloc),
             parts: Vec::new(alloc),
             alloc,
@@ -46,27 +44,33 @@ impl<S: Storage<Node<u64, Formula>>> Sheet<Reactive<u64, Formula, S>> {
             (_, Some(("show", name))) => {
                 let key = self.cell(name)?;
                 let answer = self.graph.get(key);
-                self.tell(rt, "is", &Told { key, answer })?;
+                self.tell(rt, "is", key, answer)?;
             }
             (_, Some(("watch", name))) => {
                 let key = self.cell(name)?;
-                self.watched.watch(key)?;
+                self.graph.watch(key, 0)?;
             }
             (_, Some(("clear", name))) => self.put(name, None)?,
             _ => bail!("not understood"),
         }
         let mut told = Vec::new(self.alloc);
-        self.watched.flush(&mut self.graph, &mut told)?;
+        self.graph.flush(&mut told)?;
         for change in told.iter() {
-            self.tell(rt, "becomes", change)?;
+            self.tell(rt, "becomes", change.key, change.answer)?;
         }
         Ok(())
     }
 
     // Prints a cell's value, or why it has none.
-    fn tell(&self, rt: &impl Print, verb: &str, told: &Told<u64>) -> io::Result<()> {
-        let name = self.name_of(told.key);
-        let (at, why) = match told.answer {
+    fn tell(
+        &self,
+        rt: &impl Print,
+        verb: &str,
+        key: Key,
+        answer: Result<u64, Fault>,
+    ) -> io::Result<()> {
+        let name = self.name_of(key);
+        let (at, why) = match answer {
             Ok(value) => return println!(rt; "{name} {verb} {value}"),
             Err(Fault::Cycle(at)) => (at, "needs itself"),
             Err(Fault::NoValue(at)) => (at, "has none"),

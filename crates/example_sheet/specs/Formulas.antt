@@ -1,8 +1,8 @@
 -- The plans of formulas.
 use Rattle.std.specs.Prelude.{ℕ, ◌+◌, ◌*◌, ◌^◌, if◌then◌else◌, nat_lt}
 use Rattle.reactive.specs.Plans.{Plan, Give, Stop, Ask}
-use Rattle.sheet.specs.declared.formula.Formula.{Formula}
-use Rattle.sheet.specs.declared.formula.Formula.TheVariants as formula
+use Rattle.example_sheet.specs.declared.formula.Formula.{Formula}
+use Rattle.example_sheet.specs.declared.formula.Formula.TheVariants as formula
 
 -- a number, if it isn't too large
 abbrev pub give_small : ℕ → Plan ℕ

@@ -1,6 +1,6 @@
 //! What a node of a sheet computes of others.
 
-ghost use Rattle.sheet.specs.Formulas.{plan_of};
+ghost use Rattle.example_sheet.specs.Formulas.{plan_of};
 
 use reactive::{Key, Reads, Rule};
 
