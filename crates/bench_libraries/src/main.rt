@@ -8,6 +8,8 @@
 //! | `trees`     | nodes of a `SceneTree`, each below the one at a quarter of its place |
 //! | `sessions`  | entries of a `SessionTable`, ten of a session                    |
 //! | `documents` | places of a `Document`, ten of a part                            |
+//! | `files`     | values of a store, which is saved and loaded                      |
+//! | `memo-..`   | nodes of a `Reactive`: see `Work` in memos.rt                     |
 //!
 //! `bench/peers` makes the same operations over what a user would pick instead, and sees the same.
 //! `bench/compare.py` runs both. Each operation is a function of its own, so that a profiler counts it
@@ -18,14 +20,18 @@
 
 mod documents;
 mod entities;
+mod files;
 mod laps;
+mod memos;
 mod sessions;
 mod trees;
 
 use crate::laps::{Laps, drawn};
+use crate::memos::Work;
 use document_tree::Document;
 use entity_table::EntityTable;
 use generational_box::{Store, UnsyncStorage};
+use reactive::Reactive;
 use scene_tree::SceneTree;
 use session_table::SessionTable;
 use std::env;
@@ -64,6 +70,8 @@ fn seen_in(rt: &HostRuntime, laps: &mut Laps, words: Words) -> Option<u64> {
             List::Trees => in_trees(rt, laps, &order)?,
             List::Sessions => in_sessions(rt, laps, &order)?,
             List::Documents => in_documents(rt, laps, &order)?,
+            List::Files => in_files(rt, laps, &order)?,
+            List::Memos(work) => in_memos(rt, laps, work, words.things)?,
         };
     }
     Some(seen)
@@ -103,6 +111,18 @@ fn in_documents(rt: &HostRuntime, laps: &mut Laps, order: &Vec<usize>) -> Option
     documents::run(rt, alloc, laps, &mut document, order)
 }
 
+/// Makes them over the values of an empty store.
+fn in_files(rt: &HostRuntime, laps: &mut Laps, order: &Vec<usize>) -> Option<u64> {
+    let mut store: UnsyncStorage<u64> = Store::new(rt.alloc(), 1);
+    files::run(rt, rt.alloc(), laps, &mut store, order)
+}
+
+/// Makes the rounds of a work over the nodes of an empty graph.
+fn in_memos(rt: &HostRuntime, laps: &mut Laps, work: Work, things: usize) -> Option<u64> {
+    let mut graph = Reactive::new(rt.alloc(), UnsyncStorage::new(rt.alloc(), 1));
+    memos::run(rt, rt.alloc(), laps, &mut graph, work, things)
+}
+
 /// What keeps the things.
 #[derive(Clone, Copy, PartialEq, Eq)]
 enum List {
@@ -110,6 +130,8 @@ enum List {
     Trees,
     Sessions,
     Documents,
+    Files,
+    Memos(Work),
 }
 
 /// The program's words.
@@ -130,7 +152,8 @@ impl Words {
             "trees" => List::Trees,
             "sessions" => List::Sessions,
             "documents" => List::Documents,
-            _ => return None,
+            "files" => List::Files,
+            word => List::Memos(Work::named(word)?),
         };
         let things = words.next()?.parse::<usize>().ok()?;
         let repetitions = match words.next() {

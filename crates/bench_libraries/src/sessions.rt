@@ -35,6 +35,12 @@ pub(crate) fn run<R: Clock, S: Storage<u64>>(
         seen = entries(table, sessions, seen)?;
     }
     laps.end(rt, "entries")?;
+    touch(table, order, sessions)?;
+    laps.end(rt, "touch")?;
+    for _ in 0..order.len() / 1000 {
+        seen = expire(table, seen);
+    }
+    laps.end(rt, "expire")?;
     logout(table, order, sessions)?;
     laps.end(rt, "logout")?;
     Some(seen)
@@ -110,6 +116,27 @@ fn entries<S: Storage<u64>>(
         }
     }
     Some(seen)
+}
+
+// Uses each session at a later time.
+#[inline(never)]
+fn touch<S: Storage<u64>>(
+    table: &mut SessionTable<u64, u64, u64, S>,
+    order: &Vec<usize>,
+    sessions: usize,
+) -> Option<()> {
+    for i in order {
+        if *i < sessions && !table.touch(&(*i as u64), 7) {
+            return None;
+        }
+    }
+    Some(())
+}
+
+// Ends the sessions that weren't used since before the others: none.
+#[inline(never)]
+fn expire<S: Storage<u64>>(table: &mut SessionTable<u64, u64, u64, S>, start: u64) -> u64 {
+    mix(start, table.expire(7) as u64)
 }
 
 #[inline(never)]

@@ -79,6 +79,6 @@ pub(crate) trait Calls {
 }
 
 /// Where every call is made.
-pub(crate) fn place() -> Location {
+pub(crate) fn here() -> Location {
     Location::new("workload.rs", 1, 1)
 }

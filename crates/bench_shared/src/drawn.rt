@@ -28,10 +28,10 @@ pub(crate) trait DrawnCalls: Calls {
     fn print_audit(&mut self, rt: &(impl Wait + Print)) -> Option<usize>;
 }
 
-/// How many places a board has.
-pub(crate) const PLACES: u32 = 32;
+/// How many spots a board has.
+pub(crate) const SPOTS: u32 = 32;
 
-/// Boxes that workers exchange, each at a place.
+/// Boxes that workers exchange, each at a spot.
 #[derive(Drop)]
 pub(crate) struct Board {
     boxes: Arc<Mutex<Vec<GenerationalBox<u64>>>, Global>,
@@ -50,21 +50,21 @@ impl Board {
         Some(Board { boxes })
     }
 
-    // The box at a place.
-    fn at(&self, rt: &impl Wait, place: u32) -> Option<GenerationalBox<u64>> {
+    // The box at a spot.
+    fn at(&self, rt: &impl Wait, spot: u32) -> Option<GenerationalBox<u64>> {
         let boxes = self.boxes.lock(rt);
-        boxes.get(place as usize).copied()
+        boxes.get(spot as usize).copied()
     }
 
-    // Puts a box at a place, and returns the one that was there.
+    // Puts a box at a spot, and returns the one that was there.
     fn replace(
         &self,
         rt: &impl Wait,
-        place: u32,
+        spot: u32,
         with: GenerationalBox<u64>,
     ) -> Option<GenerationalBox<u64>> {
         let mut boxes = self.boxes.lock(rt);
-        let stood = boxes.get_mut(place as usize)?;
+        let stood = boxes.get_mut(spot as usize)?;
         let old = *stood;
         *stood = with;
         Some(old)
@@ -139,17 +139,17 @@ impl<S: DrawnCalls> Drawing<S> {
 
     // A box of the board.
     fn pick(&mut self, rt: &impl Wait) -> Option<GenerationalBox<u64>> {
-        let place = self.draw(PLACES);
-        self.board.at(rt, place)
+        let spot = self.draw(SPOTS);
+        self.board.at(rt, spot)
     }
 
-    // Puts a box on the board, and mostly ends the one in whose place it comes.
+    // Puts a box on the board, and mostly ends the one that it replaces.
     fn show(&mut self, rt: &impl Wait, made: Option<GenerationalBox<u64>>) {
         let Some(made) = made else {
             return;
         };
-        let place = self.draw(PLACES);
-        if let Some(old) = self.board.replace(rt, place, made) {
+        let spot = self.draw(SPOTS);
+        if let Some(old) = self.board.replace(rt, spot, made) {
             if self.draw(8) != 0 {
                 self.calls.end(rt, old);
             }
@@ -250,8 +250,8 @@ impl<S: DrawnCalls> Drawing<S> {
 
     /// Ends the boxes of the board, so that fewer values live than before.
     pub(crate) fn clear(&mut self, rt: &impl Wait) {
-        for place in 0..PLACES {
-            if let Some(asked) = self.board.at(rt, place) {
+        for spot in 0..SPOTS {
+            if let Some(asked) = self.board.at(rt, spot) {
                 self.calls.end(rt, asked);
             }
         }

@@ -1,8 +1,8 @@
 //! Histories of drawn calls, audited and printed.
 
 use crate::Done;
-use crate::calls::{Calls, place};
-use crate::drawn::{Board, Drawing, DrawnCalls, PLACES};
+use crate::calls::{Calls, here};
+use crate::drawn::{Board, Drawing, DrawnCalls, SPOTS};
 use crate::locked::Worker;
 use generational_box::{
     AnyStorage, GenerationalBox, GenerationalPointer, Location, Owner, StepCall, Storage,
@@ -69,7 +69,7 @@ fn draw_beside<W: DrawnCalls + Drop + Send, H: Threads + Wait + Sync>(
 ) -> Option<Drawing<W>> {
     let mut other = UnsyncStorage::<u64>::new(alloc, 9);
     let strange = ask_for_strangers(rt, workers.first_mut()?, &mut other)?;
-    let board = Board::new(alloc, vec![in alloc; strange; PLACES as usize].ok()?)?;
+    let board = Board::new(alloc, vec![in alloc; strange; SPOTS as usize].ok()?)?;
     let mut drawing = Vec::new(alloc);
     let mut seed = course.seed;
     for worker in workers {
@@ -113,7 +113,7 @@ fn ask_for_strangers<S: Storage<u64>>(
         worker.insert(rt, &owner, 0);
         owner.leak();
     }
-    GenerationalBox::leak(other, 0, place()).ok()
+    GenerationalBox::leak(other, 0, here()).ok()
 }
 
 impl<

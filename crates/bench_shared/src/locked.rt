@@ -1,6 +1,6 @@
 //! The workload's calls over the store that threads share.
 
-use crate::calls::{Calls, place};
+use crate::calls::{Calls, here};
 use generational_box::{
     GenerationalBox, GenerationalRef, GenerationalRefMut, Location, Owner, StepCall,
 };
@@ -141,7 +141,7 @@ fn read_at_once<A: Count, B: Count, C: Count, D: Count>(
     tally: &mut Tally<A, B, C, D>,
     value: u64,
 ) -> Option<u64> {
-    let made = state.leak(value, place(), tally).ok()?;
+    let made = state.leak(value, here(), tally).ok()?;
     for _ in 0..2u64 {
         let guard = read_now(state, tally, made)?;
         let same = state.open(&guard).copied() == Some(value);
@@ -169,8 +169,8 @@ fn read_now<A: Count, B: Count, C: Count, D: Count>(
     tally: &mut Tally<A, B, C, D>,
     asked: GenerationalBox<u64>,
 ) -> Option<GenerationalRef<u64>> {
-    if !state.ready(&StepCall::Read(asked.pointer(), place())) {
+    if !state.ready(&StepCall::Read(asked.pointer(), here())) {
         return None;
     }
-    state.try_read(asked, place(), tally).ok()
+    state.try_read(asked, here(), tally).ok()
 }

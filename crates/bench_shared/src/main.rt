@@ -1,9 +1,9 @@
 //! `bench_shared STORE LIST WORKERS ROUNDS [BETWEEN]`: so many workers in threads make a list of calls so
 //! many times over one store, each over boxes of its own; if BETWEEN is passed and isn't 0, with a
 //! checkpoint after each so many rounds, or, for `keeps`, with so many checkpoints at the end; for
-//! `places` it is the number of places at which the calls are made. One line says how many calls that
+//! `places` it is the number of locations at which the calls are made. One line says how many calls that
 //! were, and how many steps an audit returned. The caller measures how long it takes, in processor time
-//! (`.ci/bench_shared.py`).
+//! (`bench/shared.py`).
 //!
 //! | STORE       | the store of the calls                                             |
 //! |-------------|--------------------------------------------------------------------|
@@ -17,8 +17,8 @@
 //! | `together` | the same, under one lock |
 //! | `writes` | an owner's boxes are made, written and pointed elsewhere, and end with the owner: 12 calls |
 //! | `keeps`  | a box is made, and stays: 1 call                                       |
-//! | `places` | a box that stays is read, at each of BETWEEN places in turn, and then at the last 500 of them: 2 calls |
-//! | `forgotten` | the same, with a checkpoint once each place has come                |
+//! | `places` | a box that stays is read, at each of BETWEEN locations in turn, and then at the last 500 of them: 2 calls |
+//! | `forgotten` | the same, with a checkpoint once each location has come                |
 //! | a number | calls drawn from it, over boxes that workers of a shared store exchange: a few a round |
 //!
 //! Of drawn calls the audits are printed, a base and each step a line (`.ci/replay.py` replays them). The
@@ -34,7 +34,7 @@ mod locked;
 mod plain;
 mod rounds;
 
-use crate::calls::place;
+use crate::calls::here;
 use crate::history::{Course, print_history};
 use crate::locked::Worker;
 use crate::plain::Plain;
@@ -119,8 +119,8 @@ impl Words {
             "together" => List::Together,
             "writes" => List::Writes,
             "keeps" => List::Keeps,
-            "places" => List::Places(false),
-            "forgotten" => List::Places(true),
+            "places" => List::Locations(false),
+            "forgotten" => List::Locations(true),
             word => List::Drawn(word.parse::<u64>().ok()?),
         };
         let workers = words.next()?.parse::<usize>().ok()?;
@@ -199,7 +199,7 @@ fn workers_of<A: Count, B: Count, C: Count, D: Count>(
     let mut workers = Vec::new(alloc);
     for tally in tallies {
         let store = store.try_clone().ok()?;
-        let at = place();
+        let at = here();
         workers.push(Worker { store, tally, at }).ok()?;
     }
     Some(workers)

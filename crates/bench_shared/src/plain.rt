@@ -1,7 +1,7 @@
 //! The workload's calls over a sequential store in a plain mutex: without a history, and if a borrow is
 //! in the way, a call fails instead of waiting.
 
-use crate::calls::{Calls, place};
+use crate::calls::{Calls, here};
 use generational_box::{
     AnyStorage, GenerationalBox, GenerationalRef, GenerationalRefMut, Location, Owner, Storage,
 };
@@ -15,19 +15,19 @@ pub(crate) struct Plain<S> {
 }
 
 impl<S: Storage<u64> + Drop> Calls for Plain<S> {
-    // Each call is made at one place.
+    // Each call is made at one location.
     fn move_to(&mut self, at: Location) {
         let _ = at;
     }
 
     fn leak(&mut self, rt: &impl Wait, value: u64) -> Option<GenerationalBox<u64>> {
         let mut store = self.store.lock(rt);
-        GenerationalBox::leak(&mut *store, value, place()).ok()
+        GenerationalBox::leak(&mut *store, value, here()).ok()
     }
 
     fn leak_rc(&mut self, rt: &impl Wait, value: u64) -> Option<GenerationalBox<u64>> {
         let mut store = self.store.lock(rt);
-        GenerationalBox::leak_rc(&mut *store, value, place()).ok()
+        GenerationalBox::leak_rc(&mut *store, value, here()).ok()
     }
 
     fn leak_reference(
@@ -51,7 +51,7 @@ impl<S: Storage<u64> + Drop> Calls for Plain<S> {
         value: u64,
     ) -> Option<GenerationalBox<u64>> {
         let mut store = self.store.lock(rt);
-        owner.insert(&mut *store, value, place()).ok()
+        owner.insert(&mut *store, value, here()).ok()
     }
 
     fn insert_rc(
@@ -61,7 +61,7 @@ impl<S: Storage<u64> + Drop> Calls for Plain<S> {
         value: u64,
     ) -> Option<GenerationalBox<u64>> {
         let mut store = self.store.lock(rt);
-        owner.insert_rc(&mut *store, value, place()).ok()
+        owner.insert_rc(&mut *store, value, here()).ok()
     }
 
     fn release_owner(&mut self, rt: &impl Wait, owner: Owner) -> bool {
@@ -81,7 +81,7 @@ impl<S: Storage<u64> + Drop> Calls for Plain<S> {
         asked: GenerationalBox<u64>,
     ) -> Option<GenerationalRef<u64>> {
         let mut store = self.store.lock(rt);
-        asked.try_read(&mut *store, place()).ok()
+        asked.try_read(&mut *store, here()).ok()
     }
 
     fn opens(&mut self, rt: &impl Wait, guard: &GenerationalRef<u64>, value: u64) -> bool {
@@ -101,7 +101,7 @@ impl<S: Storage<u64> + Drop> Calls for Plain<S> {
         asked: GenerationalBox<u64>,
     ) -> Option<GenerationalRefMut<u64>> {
         let mut store = self.store.lock(rt);
-        asked.try_write(&mut *store, place()).ok()
+        asked.try_write(&mut *store, here()).ok()
     }
 
     fn release_write(&mut self, rt: &impl Wait, guard: GenerationalRefMut<u64>) -> bool {
@@ -135,9 +135,9 @@ impl<S: Storage<u64> + Drop> Calls for Plain<S> {
 
     fn reads_together(&mut self, rt: &impl Wait, value: u64) -> Option<u64> {
         let mut store = self.store.lock(rt);
-        let made = GenerationalBox::leak(&mut *store, value, place()).ok()?;
+        let made = GenerationalBox::leak(&mut *store, value, here()).ok()?;
         for _ in 0..2u64 {
-            let guard = made.try_read(&mut *store, place()).ok()?;
+            let guard = made.try_read(&mut *store, here()).ok()?;
             let same = store.open(&guard).copied() == Some(value);
             let known = guard.release(&mut *store);
             if !(same && known) {
@@ -145,7 +145,7 @@ impl<S: Storage<u64> + Drop> Calls for Plain<S> {
             }
         }
         made.manually_drop(&mut *store).ok()?;
-        match made.try_read(&mut *store, place()) {
+        match made.try_read(&mut *store, here()) {
             Ok(guard) => {
                 guard.release(&mut *store);
                 None

@@ -8,8 +8,8 @@ use std::sync::Wait;
 
 /// Runs so many rounds, and returns how many calls they made; None if a call wasn't carried out. A
 /// checkpoint, which isn't counted, comes after each so many rounds, and none if that is 0. For `Keeps`
-/// all checkpoints come at the end, so many, each followed by another round. Of `Places` that number says
-/// at how many places boxes are read.
+/// all checkpoints come at the end, so many, each followed by another round. Of `Locations` that number says
+/// at how many locations boxes are read.
 pub(crate) fn run<S: Calls>(
     store: &mut S,
     rt: &impl Wait,
@@ -19,7 +19,7 @@ pub(crate) fn run<S: Calls>(
 ) -> Option<u64> {
     match list {
         List::Keeps => return keep(store, rt, rounds, between),
-        List::Places(forgets) => return read_at_places(store, rt, rounds, between, forgets),
+        List::Locations(forgets) => return read_at_locations(store, rt, rounds, between, forgets),
         _ => {}
     }
     let mut calls = 0u64;
@@ -36,7 +36,7 @@ pub(crate) fn run<S: Calls>(
             List::Reads => reading_round(store, rt, value)?,
             List::Together => store.reads_together(rt, value)?,
             List::Writes => writing_round(store, rt, value)?,
-            List::Keeps | List::Places(_) | List::Drawn(_) => return None,
+            List::Keeps | List::Locations(_) | List::Drawn(_) => return None,
         };
         calls = calls.wrapping_add(made);
     }
@@ -54,9 +54,9 @@ pub(crate) enum List {
     Writes,
     /// A box is made, and stays.
     Keeps,
-    /// A box that stays is read, at each of many places in turn, and then at the last ones; with a
+    /// A box that stays is read, at each of many locations in turn, and then at the last ones; with a
     /// checkpoint after the first turn, or with none.
-    Places(bool),
+    Locations(bool),
     /// Calls that are drawn from a number, which only a shared store has.
     Drawn(u64),
 }
@@ -98,24 +98,24 @@ fn keep<S: Calls>(store: &mut S, rt: &impl Wait, boxes: u64, checkpoints: u64) -
     Some(boxes.wrapping_add(checkpoints))
 }
 
-// How many of the last places calls are made at once each place has come.
+// How many of the last locations calls are made at once each location has come.
 const LATE: u64 = 500;
 
-// Makes a box and reads it so many times, at so many places. If the history is to forget them, a
-// checkpoint comes once each place has come.
-fn read_at_places<S: Calls>(
+// Makes a box and reads it so many times, at so many locations. If the history is to forget them, a
+// checkpoint comes once each location has come.
+fn read_at_locations<S: Calls>(
     store: &mut S,
     rt: &impl Wait,
     rounds: u64,
-    places: u64,
+    locations: u64,
     forgets: bool,
 ) -> Option<u64> {
     let made = store.leak(rt, 0)?;
     for round in 0..rounds {
-        if forgets && round == places && !store.checkpoint(rt) {
+        if forgets && round == locations && !store.checkpoint(rt) {
             return None;
         }
-        store.move_to(place_of(round, places.max(1)));
+        store.move_to(location_of_round(round, locations.max(1)));
         let guard = store.read(rt, made)?;
         if !store.release_read(rt, guard) {
             return None;
@@ -124,17 +124,17 @@ fn read_at_places<S: Calls>(
     Some(rounds.wrapping_mul(2).wrapping_add(1))
 }
 
-// Where the calls of a round are made: at a place of its own, and once each has come at one of the last.
-fn place_of(round: u64, places: u64) -> Location
-    requires { 0 < places }
+// Where the calls of a round are made: at a location of its own, and once each has come at one of the last.
+fn location_of_round(round: u64, locations: u64) -> Location
+    requires { 0 < locations }
 {
-    let place = if round < places {
+    let number = if round < locations {
         round
     } else {
-        places - 1 - round % places.min(LATE)
+        locations - 1 - round % locations.min(LATE)
     };
-    let line = (place % 4_294_967_296) as u32;
-    Location::new("places.rs", line, 1)
+    let line = (number % 4_294_967_296) as u32;
+    Location::new("locations.rs", line, 1)
 }
 
 // 12 calls, each of which is a step.

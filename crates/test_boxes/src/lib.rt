@@ -3,7 +3,9 @@
 #![tactic(auto)]
 
 #[cfg(test)]
-mod again;
+mod again_memory;
+#[cfg(test)]
+mod box_memory;
 #[cfg(test)]
 mod callers;
 #[cfg(test)]
@@ -23,9 +25,9 @@ mod growth;
 #[cfg(test)]
 mod ids;
 #[cfg(test)]
-mod many_names;
+mod limit_memory;
 #[cfg(test)]
-mod memory;
+mod many_names;
 #[cfg(test)]
 mod peeks;
 #[cfg(test)]
@@ -35,13 +37,11 @@ mod rounds;
 #[cfg(test)]
 mod rows;
 #[cfg(test)]
-mod scarcity;
-#[cfg(test)]
 mod sessions;
 #[cfg(test)]
-mod sharing;
+mod shared_memory;
 #[cfg(test)]
-mod shortage;
+mod sharing;
 #[cfg(test)]
 mod strangers;
 #[cfg(test)]

@@ -1,15 +1,15 @@
 //! Memory runs out while an image is made or loaded. Each test passes whichever allocation fails, and
 //! what may fail to allocate is tried again.
 
-use crate::images::{assert_same, made, saved};
+use crate::expected::assert_same;
+use crate::fresh::{Saves, Scene, play};
+use crate::images::{made, saved};
 use generational_box::{
-    AnyStorage, GenerationalBox, Image, LastFirst, LoadError, LoadRefusal, Loaded, SaveError,
-    Storage, Store,
+    AnyStorage, GenerationalBox, GenerationalBoxId, Image, LoadError, LoadRefusal, Loaded,
+    SaveError, Storage,
 };
 use std::alloc::Global;
 use std::process::Abort;
-
-type Texts = Store<String, LastFirst>;
 
 // How often a load is tried.
 const TRIES: u32 = 8;
@@ -50,25 +50,28 @@ fn leak_rc_or_again<S: Storage<String>>(
 }
 
 /// The store's image, with copies of its values.
-fn copied_or_again(rt: &impl Abort, store: &Texts) -> Image<String> {
-    match store.image() {
+fn copied_or_again<S: Saves<String>>(rt: &impl Abort, store: &S) -> Image<String> {
+    match store.copy() {
         Ok(image) => image,
         Err(cause) => {
             assert_same(rt, &cause, &SaveError::OutOfMemory);
-            store.image().expect(rt, "memory")
+            store.copy().expect(rt, "memory")
         }
     }
 }
 
 /// The store as an image. If that fails, the store is unchanged.
-fn saved_or_again(rt: &impl Abort, store: Texts) -> Image<String> {
+fn saved_or_again<S: Storage<String> + Saves<String> + Drop>(
+    rt: &impl Abort,
+    store: S,
+) -> Image<String> {
     let before = (store.slots(), store.free(), store.len());
-    match store.into_image() {
+    match store.save() {
         Ok(image) => image,
         Err((store, cause)) => {
             assert_same(rt, &cause, &SaveError::OutOfMemory);
             assert_same(rt, &(store.slots(), store.free(), store.len()), &before);
-            saved(rt, store.into_image())
+            saved(rt, store)
         }
     }
 }
@@ -80,10 +83,10 @@ fn unloaded(rt: &impl Abort, refusal: LoadRefusal<String>) -> Image<String> {
 }
 
 /// Loads an image. A load allocates little at first, which may fail again.
-fn loaded_or_again(rt: &impl Abort, alloc: Global, image: Image<String>) -> Texts {
+fn loaded_or_again<S: Saves<String>>(rt: &impl Abort, alloc: Global, image: Image<String>) -> S {
     let mut image = image;
     for _ in 0..TRIES {
-        match Store::from_image(alloc, image) {
+        match S::load(alloc, image) {
             Ok(store) => return store,
             Err(refusal) => image = unloaded(rt, refusal),
         }
@@ -91,10 +94,14 @@ fn loaded_or_again(rt: &impl Abort, alloc: Global, image: Image<String>) -> Text
     panic!(rt; "memory")
 }
 
-fn loaded_as_or_again(rt: &impl Abort, alloc: Global, image: Image<String>) -> (Texts, Loaded) {
+fn loaded_as_or_again<S: Saves<String>>(
+    rt: &impl Abort,
+    alloc: Global,
+    image: Image<String>,
+) -> (S, Loaded) {
     let mut image = image;
     for _ in 0..TRIES {
-        match Store::from_image_as(alloc, 8, image) {
+        match S::load_as(alloc, 8, image) {
             Ok(both) => return both,
             Err(refusal) => image = unloaded(rt, refusal),
         }
@@ -102,30 +109,60 @@ fn loaded_as_or_again(rt: &impl Abort, alloc: Global, image: Image<String>) -> (
     panic!(rt; "memory")
 }
 
-fn assert_peeks(rt: &impl Abort, store: &Texts, given: GenerationalBox<String>, text: &str) {
+fn assert_peeks<S: Storage<String>>(
+    rt: &impl Abort,
+    store: &S,
+    given: GenerationalBox<String>,
+    text: &str,
+) {
     match given.peek(store) {
         Some(seen) => assert_same(rt, &seen.as_str(), &text),
         None => panic!(rt; "nothing is seen"),
     }
 }
 
+/// Asserts that a box of an image reads nothing in a store under another number.
+fn assert_unseen<S: Storage<String>>(rt: &impl Abort, store: &S, given: GenerationalBox<String>) {
+    assert!(rt; given.peek(store).is_none());
+}
+
+/// Asserts what an id reads once it is taken over.
+fn assert_adopted<S: Storage<String>>(
+    rt: &impl Abort,
+    store: &S,
+    taken: &Loaded,
+    id: GenerationalBoxId,
+    text: &str,
+) {
+    let id = taken.adopt(id).expect(rt, "an id");
+    let given = GenerationalBox::find(store, id).expect(rt, "a box");
+    assert_peeks(rt, store, given, text);
+}
+
+/// An image and a copy that are made and loaded.
+struct MadeAndLoaded;
+
+impl Scene<String> for MadeAndLoaded {
+    fn play<R: Abort, S: Storage<String> + Saves<String> + Drop>(
+        &self,
+        rt: &R,
+        alloc: Global,
+        store: S,
+    ) {
+        let mut store = store;
+        let own = leak_or_again(rt, &mut store, note(rt, alloc, "a value of a box"));
+        let shared = leak_rc_or_again(rt, &mut store, note(rt, alloc, "a value that is shared"));
+        let copy = copied_or_again(rt, &store);
+        let store: S = loaded_or_again(rt, alloc, saved_or_again(rt, store));
+        assert_peeks(rt, &store, own, "a value of a box");
+        assert_peeks(rt, &store, shared, "a value that is shared");
+        let (again, taken): (S, Loaded) = loaded_as_or_again(rt, alloc, copy);
+        assert_unseen(rt, &again, own);
+        assert_adopted(rt, &again, &taken, shared.id(), "a value that is shared");
+    }
+}
+
 #[test]
 fn images_are_made_and_loaded(rt: HostRuntime) {
-    let alloc = rt.alloc();
-    let mut store: Texts = Store::new(alloc, 7);
-    let own = leak_or_again(&rt, &mut store, note(&rt, alloc, "a value of a box"));
-    let shared = leak_rc_or_again(&rt, &mut store, note(&rt, alloc, "a value that is shared"));
-    let copy = copied_or_again(&rt, &store);
-    let store = loaded_or_again(&rt, alloc, saved_or_again(&rt, store));
-    assert_peeks(&rt, &store, own, "a value of a box");
-    assert_peeks(&rt, &store, shared, "a value that is shared");
-    let (again, taken) = loaded_as_or_again(&rt, alloc, copy);
-    assert!(&rt; own.peek(&again).is_none());
-    match taken.adopt(shared.id()) {
-        Some(id) => match GenerationalBox::find(&again, id) {
-            Some(given) => assert_peeks(&rt, &again, given, "a value that is shared"),
-            None => panic!(&rt; "no box"),
-        },
-        None => panic!(&rt; "the id wasn't adopted"),
-    }
+    play::<String, MadeAndLoaded>(&rt, rt.alloc(), 7, &MadeAndLoaded);
 }

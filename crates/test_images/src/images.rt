@@ -1,8 +1,8 @@
 //! Images as rows, and what is asserted of them.
 
-use generational_box::{
-    CellImage, Image, LoadRefusal, Location, SaveError, SlotImage, SlotPool, Store,
-};
+use crate::expected::assert_same;
+use crate::fresh::Saves;
+use generational_box::{CellImage, Image, LoadRefusal, Location, SlotImage};
 use std::alloc::Global;
 use std::fmt::Debug;
 use std::process::Abort;
@@ -63,41 +63,24 @@ pub(crate) fn text_of(rt: &impl Abort, alloc: Global, shown: &impl Debug) -> Str
     format!(in alloc; "{shown:?}").expect(rt, "memory")
 }
 
-/// Asserts that a value is what it should be.
-pub(crate) fn assert_same<T: PartialEq + Debug>(rt: &impl Abort, found: &T, wanted: &T) {
-    assert_eq!(rt; *found, *wanted);
-}
-
 /// The store, which must have been loaded.
-pub(crate) fn loaded<T: Drop, P: SlotPool>(
-    rt: &impl Abort,
-    answer: Result<Store<T, P>, LoadRefusal<T>>,
-) -> Store<T, P> {
+pub(crate) fn loaded<T: Drop, S>(rt: &impl Abort, answer: Result<S, LoadRefusal<T>>) -> S {
     match answer {
         Ok(store) => store,
         Err(_) => panic!(rt; "the image wasn't loaded"),
     }
 }
 
-/// The image, which must have been made.
-pub(crate) fn saved<T: Drop, P: SlotPool>(
-    rt: &impl Abort,
-    answer: Result<Image<T>, (Store<T, P>, SaveError)>,
-) -> Image<T> {
-    match answer {
+/// The image of a store, which must have one.
+pub(crate) fn saved<T, S: Saves<T> + Drop>(rt: &impl Abort, store: S) -> Image<T> {
+    match store.save() {
         Ok(image) => image,
         Err(_) => panic!(rt; "the store wasn't saved"),
     }
 }
 
-/// The image, loaded and saved again.
-fn saved_again<P: SlotPool>(rt: &impl Abort, alloc: Global, image: Image<u64>) -> Image<u64> {
-    let store: Store<u64, P> = loaded(rt, Store::from_image(alloc, image));
-    saved(rt, store.into_image())
-}
-
 /// Asserts that the image of these slots is loaded, and saved again unchanged.
-pub(crate) fn assert_loads<P: SlotPool>(
+pub(crate) fn assert_loads<S: Saves<u64> + Drop>(
     rt: &impl Abort,
     alloc: Global,
     start: u64,
@@ -106,6 +89,7 @@ pub(crate) fn assert_loads<P: SlotPool>(
 ) {
     let image = image_of(rt, alloc, start, peak, rows);
     let before = text_of(rt, alloc, &image);
-    let image = saved_again::<P>(rt, alloc, image);
+    let store: S = loaded(rt, S::load(alloc, image));
+    let image = saved(rt, store);
     assert_same(rt, &text_of(rt, alloc, &image), &before);
 }

@@ -1,44 +1,25 @@
-//! What is done to a document, one act a line, with what must come of it.
+//! The commands of histories of documents, each named like the call that it makes.
+//!
+//! | command                                       | reply, if not an error |
+//! |-----------------------------------------------|------------------------|
+//! | `add CONTENT`, `repeat PLACE`                 | `ok`                   |
+//! | `append PARENT CHILD`                         | `ok`                   |
+//! | `insert PARENT INDEX CHILD`                   | `ok`                   |
+//! | `take_child PARENT INDEX`                     | `took CHILD`           |
+//! | `clear_gone PARENT`                           | `ok`                   |
+//! | `set PLACE CONTENT`, `update PLACE MORE`      | `ok`                   |
+//! | `exchange PLACE OTHER`, `remove PLACE`        | `ok`                   |
+//!
+//! `update` adds to a content. The state has each place that isn't gone, in the order in which they were
+//! made, as `PLACE=CONTENT(CHILD ..)`, without the brackets if there is no child.
 
-use crate::expected::{assert_same, given};
-use document_tree::{Document, Place, PlaceError};
+use crate::expected::{answered, assert_same, given};
+use crate::rows::{Made, Subject, Words, write_numbers, write_reply, write_text};
+use document_tree::{Document, Place, PlaceError, PlaceKind};
 use generational_box::{Location, Storage};
 use std::alloc::Global;
+use std::fmt::Write;
 use std::process::Abort;
-
-/// An act. Places are named by the order in which they were made, from 0.
-#[derive(Clone, Copy)]
-pub(crate) enum Act {
-    Add(u64),
-    Repeat(usize),
-    /// The first takes the second as its last child.
-    Append(usize, usize),
-    /// The first takes the third as a child, at an index.
-    Insert(usize, usize, usize),
-    /// Takes the child at an index out of a place's children. It is this one.
-    Take(usize, usize, usize),
-    /// Takes the children that are gone out of a place's.
-    Clear(usize),
-    Set(usize, u64),
-    /// Adds to a place's content.
-    Update(usize, u64),
-    /// The first gets the second's part.
-    Exchange(usize, usize),
-    Remove(usize),
-}
-
-/// What a place shows: content, and children. None if it is gone.
-pub(crate) type Shown<'a> = Option<(u64, &'a [usize])>;
-
-/// An act, with what must come of it.
-#[derive(Clone, Copy)]
-pub(crate) struct Line<'a> {
-    pub(crate) act: Act,
-    /// Whether it is carried out. Only one of a place that is gone isn't.
-    pub(crate) done: bool,
-    /// What each place shows afterwards, in the order in which they were made.
-    pub(crate) shows: &'a [Shown<'a>],
-}
 
 /// Where a part is added.
 pub(crate) fn added_at(line: u32) -> Location {
@@ -74,128 +55,157 @@ pub(crate) fn has_content<S: Storage<u32>>(
     assert_same(rt, &document.get(place).copied().ok(), &content);
 }
 
-/// Does each line's act to a document, and sees what comes of it.
-pub(crate) fn play<S: Storage<u32>>(
+/// A document, and the places that were made.
+#[derive(Drop)]
+pub(crate) struct Draft<S: Storage<u32>> {
+    alloc: Global,
+    document: Document<u64, S>,
+    places: Made<u32, PlaceKind>,
+}
+
+impl<S: Storage<u32>> Draft<S> {
+    /// A document over a new store.
+    pub(crate) fn new(rt: &impl Abort, alloc: Global, store: S) -> Draft<S> {
+        Draft {
+            alloc,
+            document: document_over(rt, alloc, store),
+            places: Made::new(alloc),
+        }
+    }
+
+    // Keeps a new place.
+    fn keep(&mut self, rt: &impl Abort, made: Result<Place, PlaceError>) -> Result<(), PlaceError> {
+        let place = made?;
+        self.places.add(rt, place);
+        Ok(())
+    }
+
+    fn add(&mut self, rt: &impl Abort, words: &mut Words<'_>) -> Result<(), PlaceError> {
+        let made = given(rt, self.document.add(words.number(rt), added_at(1)));
+        self.keep(rt, Ok(made))
+    }
+
+    fn repeat(&mut self, rt: &impl Abort, words: &mut Words<'_>) -> Result<(), PlaceError> {
+        let place = self.places.named(rt, words);
+        let made = self.document.repeat(place);
+        self.keep(rt, made)
+    }
+
+    fn append(&mut self, rt: &impl Abort, words: &mut Words<'_>) -> Result<(), PlaceError> {
+        let parent = self.places.named(rt, words);
+        let child = self.places.named(rt, words);
+        self.document.append(parent, child)
+    }
+
+    fn insert(&mut self, rt: &impl Abort, words: &mut Words<'_>) -> Result<(), PlaceError> {
+        let parent = self.places.named(rt, words);
+        let index = words.index(rt);
+        let child = self.places.named(rt, words);
+        self.document.insert(parent, index, child)
+    }
+
+    fn clear_gone(&mut self, rt: &impl Abort, words: &mut Words<'_>) -> Result<(), PlaceError> {
+        let parent = self.places.named(rt, words);
+        self.document.clear_gone(parent).map_err(PlaceError::from)
+    }
+
+    // Sets a content. It comes back if that fails.
+    fn set(&mut self, rt: &impl Abort, words: &mut Words<'_>) -> Result<(), PlaceError> {
+        let place = self.places.named(rt, words);
+        let content = words.number(rt);
+        let answer = answered(rt, self.document.set(place, content), &content);
+        answer.map_err(PlaceError::from)
+    }
+
+    fn update(&mut self, rt: &impl Abort, words: &mut Words<'_>) -> Result<(), PlaceError> {
+        let place = self.places.named(rt, words);
+        let more = words.number(rt);
+        let answer = self.document.update(place, |content: &mut u64| {
+            *content = content.wrapping_add(more);
+        });
+        answer.map_err(PlaceError::from)
+    }
+
+    fn exchange(&mut self, rt: &impl Abort, words: &mut Words<'_>) -> Result<(), PlaceError> {
+        let place = self.places.named(rt, words);
+        let other = self.places.named(rt, words);
+        self.document
+            .exchange(place, other)
+            .map_err(PlaceError::from)
+    }
+
+    fn remove(&mut self, rt: &impl Abort, words: &mut Words<'_>) -> Result<(), PlaceError> {
+        let place = self.places.named(rt, words);
+        self.document.remove(place).map_err(PlaceError::from)
+    }
+
+    // Carries out a command that replies `ok`.
+    fn answer(
+        &mut self,
+        rt: &impl Abort,
+        word: &str,
+        words: &mut Words<'_>,
+    ) -> Result<(), PlaceError> {
+        match word {
+            "add" => self.add(rt, words),
+            "repeat" => self.repeat(rt, words),
+            "append" => self.append(rt, words),
+            "insert" => self.insert(rt, words),
+            "clear_gone" => self.clear_gone(rt, words),
+            "set" => self.set(rt, words),
+            "update" => self.update(rt, words),
+            "exchange" => self.exchange(rt, words),
+            "remove" => self.remove(rt, words),
+            _ => panic!(rt; "no such command"),
+        }
+    }
+
+    // Takes a child out of a place's children, and writes which it is.
+    fn take(&mut self, rt: &impl Abort, words: &mut Words<'_>, text: &mut String) {
+        let parent = self.places.named(rt, words);
+        match self.document.take_child(parent, words.index(rt)) {
+            Ok(child) => {
+                let number = self.places.number_of(rt, child);
+                given(rt, write!(text, "took {number}"));
+            }
+            Err(error) => write_text(rt, text, &error),
+        }
+    }
+}
+
+impl<S: Storage<u32>> Subject for Draft<S> {
+    fn carry_out<R: Abort>(&mut self, rt: &R, words: &mut Words<'_>, text: &mut String) {
+        match words.word() {
+            "take_child" => self.take(rt, words, text),
+            word => {
+                let answer = self.answer(rt, word, words);
+                write_reply(rt, text, answer);
+            }
+        }
+    }
+
+    fn show<R: Abort>(&mut self, rt: &R, text: &mut String) {
+        for (number, place) in self.places.all().iter().enumerate() {
+            if let Ok(content) = self.document.get(*place).copied() {
+                given(rt, write!(text, " {number}={content}"));
+                write_children(rt, self.alloc, &self.document, &self.places, *place, text);
+            }
+        }
+    }
+}
+
+/// Writes the children of a place.
+fn write_children<S: Storage<u32>>(
     rt: &impl Abort,
     alloc: Global,
-    document: &mut Document<u64, S>,
-    lines: &[Line],
-) {
-    let mut places = Vec::new(alloc);
-    for line in lines {
-        assert_same(
-            rt,
-            &carries_out(rt, document, &mut places, line.act),
-            &line.done,
-        );
-        shows(rt, document, &places, line.shows);
-    }
-}
-
-/// Does an act, and says whether it was carried out.
-fn carries_out<S: Storage<u32>>(
-    rt: &impl Abort,
-    document: &mut Document<u64, S>,
-    places: &mut Vec<Place>,
-    act: Act,
-) -> bool {
-    match act {
-        Act::Add(content) => match document.add(content, added_at(1)) {
-            Ok(place) => places.push(place).is_ok(),
-            Err(_) => false,
-        },
-        Act::Repeat(number) => match document.repeat(place_at(rt, places, number)) {
-            Ok(place) => places.push(place).is_ok(),
-            Err(_) => false,
-        },
-        Act::Append(parent, child) => {
-            let child = place_at(rt, places, child);
-            document.append(place_at(rt, places, parent), child).is_ok()
-        }
-        Act::Insert(parent, index, child) => {
-            let child = place_at(rt, places, child);
-            document
-                .insert(place_at(rt, places, parent), index, child)
-                .is_ok()
-        }
-        Act::Take(parent, index, child) => {
-            let taken = document.take_child(place_at(rt, places, parent), index);
-            is_taken(rt, taken, place_at(rt, places, child))
-        }
-        Act::Clear(parent) => document.clear_gone(place_at(rt, places, parent)).is_ok(),
-        Act::Update(number, more) => update(document, place_at(rt, places, number), more),
-        Act::Set(number, content) => document.set(place_at(rt, places, number), content).is_ok(),
-        Act::Exchange(number, other) => {
-            let other = place_at(rt, places, other);
-            document
-                .exchange(place_at(rt, places, number), other)
-                .is_ok()
-        }
-        Act::Remove(number) => document.remove(place_at(rt, places, number)).is_ok(),
-    }
-}
-
-/// Adds to a content, and says whether there was one.
-fn update<S: Storage<u32>>(document: &mut Document<u64, S>, place: Place, more: u64) -> bool {
-    document
-        .update(
-            place,
-            |content: &mut u64| *content = content.wrapping_add(more),
-        )
-        .is_ok()
-}
-
-/// Sees which child was taken, and says whether one was.
-fn is_taken(rt: &impl Abort, taken: Result<Place, PlaceError>, child: Place) -> bool {
-    match taken {
-        Ok(place) => {
-            assert_same(rt, &place.id(), &child.id());
-            true
-        }
-        Err(_) => false,
-    }
-}
-
-/// A place by its number.
-pub(crate) fn place_at(rt: &impl Abort, places: &[Place], number: usize) -> Place {
-    places.get(number).copied().expect(rt, "a place")
-}
-
-/// Sees what each place shows.
-fn shows<S: Storage<u32>>(
-    rt: &impl Abort,
     document: &Document<u64, S>,
-    places: &[Place],
-    shows: &[Shown],
-) {
-    assert_same(rt, &places.len(), &shows.len());
-    for (place, shown) in places.iter().zip(shows) {
-        let content = shown.map(|(content, _)| content);
-        has_content(rt, document, *place, content);
-        if let Some((_, numbers)) = shown {
-            has_children(rt, document, places, *place, numbers);
-        }
-    }
-}
-
-/// Sees which children a place has.
-fn has_children<S: Storage<u32>>(
-    rt: &impl Abort,
-    document: &Document<u64, S>,
-    places: &[Place],
+    places: &Made<u32, PlaceKind>,
     place: Place,
-    numbers: &[usize],
+    text: &mut String,
 ) {
-    let Ok(children) = document.children(place) else {
-        panic!(rt; "a place is gone");
-    };
-    are_places(rt, places, children, numbers);
-}
-
-/// Asserts which places are in a list.
-fn are_places(rt: &impl Abort, places: &[Place], list: &[Place], numbers: &[usize]) {
-    assert_same(rt, &list.len(), &numbers.len());
-    for (place, number) in list.iter().zip(numbers) {
-        assert_same(rt, &place.id(), &place_at(rt, places, *number).id());
+    let mut numbers = Vec::new(alloc);
+    for child in given(rt, document.children(place)) {
+        given(rt, numbers.push(places.number_of(rt, *child)));
     }
+    write_numbers(rt, text, numbers.as_slice());
 }

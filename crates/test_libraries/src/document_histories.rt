@@ -1,197 +1,103 @@
-//! Histories of documents, as lines.
+//! Histories of documents, as rows: each is carried out once with each order of free slots.
 
-use crate::document_acts::{Act, Line, Shown, document_over, play};
+use crate::document_acts::Draft;
 use crate::fresh::{Scene, play_both};
+use crate::rows::{History, carry_out_all};
 use generational_box::Storage;
 use std::alloc::Global;
 use std::process::Abort;
 
-/// Lines that are played in a document over a new store.
+/// A history of a document over a new store.
 #[derive(Drop)]
-struct Lines<'a>(&'a [Line<'a>]);
+struct Told(History);
 
-impl Scene<u32> for Lines<'_> {
+impl Scene<u32> for Told {
     fn play<R: Abort, S: Storage<u32> + Drop>(&self, rt: &R, alloc: Global, store: S) {
-        let mut document = document_over(rt, alloc, store);
-        play(rt, alloc, &mut document, self.0);
+        let mut subject = Draft::new(rt, alloc, store);
+        let (name, rows) = self.0;
+        carry_out_all(rt, alloc, &mut subject, name, rows);
     }
 }
 
-/// Plays lines, once with each order of free slots.
-fn play_lines(rt: &impl Abort, alloc: Global, lines: &[Line]) {
-    play_both::<u32, Lines>(rt, alloc, &Lines(lines));
-}
-
-/// A line whose act is carried out.
-macro_rules! done {
-    ($act:expr, $shows:expr $(,)?) => {
-        Line {
-            act: $act,
-            done: true,
-            shows: $shows,
-        }
-    };
-}
-
-/// A line with a place that is gone.
-macro_rules! gone {
-    ($act:expr, $shows:expr $(,)?) => {
-        Line {
-            act: $act,
-            done: false,
-            shows: $shows,
-        }
-    };
-}
-
-const A_HEADING_IS_EXCHANGED_ON_EACH_PAGE: &[Line] = &[
-    // The place 0 is the heading, 1 and 2 are pages.
-    done!(Act::Add(10), &[Some((10, &[]))]),
-    done!(Act::Add(1), &[Some((10, &[])), Some((1, &[]))]),
-    done!(
-        Act::Add(2),
-        &[Some((10, &[])), Some((1, &[])), Some((2, &[]))],
-    ),
-    done!(
-        Act::Append(1, 0),
-        &[Some((10, &[])), Some((1, &[0])), Some((2, &[]))],
-    ),
-    done!(
-        Act::Append(2, 0),
-        &[Some((10, &[])), Some((1, &[0])), Some((2, &[0]))],
-    ),
-    done!(
-        Act::Add(20),
+const HISTORIES: [History; 4] = [
+    (
+        "a heading is exchanged on each page",
         &[
-            Some((10, &[])),
-            Some((1, &[0])),
-            Some((2, &[0])),
-            Some((20, &[])),
+            // The place 0 is the heading, 1 and 2 are pages.
+            "add 10 -> ok | 0=10",
+            "add 1 -> ok | 0=10 1=1",
+            "add 2 -> ok | 0=10 1=1 2=2",
+            "append 1 0 -> ok | 0=10 1=1(0) 2=2",
+            "append 2 0 -> ok | 0=10 1=1(0) 2=2(0)",
+            "add 20 -> ok | 0=10 1=1(0) 2=2(0) 3=20",
+            "exchange 0 3 -> ok | 0=20 1=1(0) 2=2(0) 3=20",
+            // The new part lives on by the heading's place.
+            "remove 3 -> ok | 0=20 1=1(0) 2=2(0)",
+            "exchange 0 3 -> the value made at d.rs:1:1 is gone | 0=20 1=1(0) 2=2(0)",
+            "remove 0 -> ok | 1=1(0) 2=2(0)",
+            "append 1 0 -> the value made at d.rs:1:1 is gone | 1=1(0) 2=2(0)",
         ],
     ),
-    done!(
-        Act::Exchange(0, 3),
+    (
+        "what is set shows at each place",
         &[
-            Some((20, &[])),
-            Some((1, &[0])),
-            Some((2, &[0])),
-            Some((20, &[])),
+            "add 5 -> ok | 0=5",
+            "repeat 0 -> ok | 0=5 1=5",
+            "add 8 -> ok | 0=5 1=5 2=8",
+            "append 1 2 -> ok | 0=5(2) 1=5(2) 2=8",
+            "append 0 2 -> ok | 0=5(2 2) 1=5(2 2) 2=8",
+            "set 0 6 -> ok | 0=6(2 2) 1=6(2 2) 2=8",
+            // The part lives on by its second place.
+            "remove 0 -> ok | 1=6(2 2) 2=8",
+            "repeat 0 -> the value made at d.rs:1:1 is gone | 1=6(2 2) 2=8",
+            "remove 1 -> ok | 2=8",
+            "set 1 9 -> the value made at d.rs:1:1 is gone | 2=8",
         ],
     ),
-    // The new part lives on by the heading's place.
-    done!(
-        Act::Remove(3),
-        &[Some((20, &[])), Some((1, &[0])), Some((2, &[0])), None],
+    (
+        "a place that is gone reads no later part",
+        &[
+            "add 1 -> ok | 0=1",
+            "remove 0 -> ok |",
+            // The free slots are taken again.
+            "add 2 -> ok | 1=2",
+            "remove 0 -> the value made at d.rs:1:1 is gone | 1=2",
+            "append 0 1 -> the value made at d.rs:1:1 is gone | 1=2",
+            // A part may stand below itself.
+            "append 1 1 -> ok | 1=2(1)",
+            "exchange 1 1 -> ok | 1=2(1)",
+            "remove 1 -> ok |",
+        ],
     ),
-    gone!(
-        Act::Exchange(0, 3),
-        &[Some((20, &[])), Some((1, &[0])), Some((2, &[0])), None],
+    // Children that are inserted, taken out, and end.
+    (
+        "children come and go",
+        &[
+            "add 1 -> ok | 0=1",
+            "repeat 0 -> ok | 0=1 1=1",
+            "add 2 -> ok | 0=1 1=1 2=2",
+            // The children are those of both places of a part.
+            "insert 0 0 2 -> ok | 0=1(2) 1=1(2) 2=2",
+            "insert 1 0 0 -> ok | 0=1(0 2) 1=1(0 2) 2=2",
+            "insert 0 3 2 -> the index is past the children | 0=1(0 2) 1=1(0 2) 2=2",
+            "insert 0 2 1 -> ok | 0=1(0 2 1) 1=1(0 2 1) 2=2",
+            "take_child 0 3 -> the index is past the children | 0=1(0 2 1) 1=1(0 2 1) 2=2",
+            "take_child 0 2 -> took 1 | 0=1(0 2) 1=1(0 2) 2=2",
+            "update 1 6 -> ok | 0=7(0 2) 1=7(0 2) 2=2",
+            // A child that went is listed until it is cleared away.
+            "remove 2 -> ok | 0=7(0 2) 1=7(0 2)",
+            "clear_gone 1 -> ok | 0=7(0) 1=7(0)",
+            "insert 0 0 2 -> the value made at d.rs:1:1 is gone | 0=7(0) 1=7(0)",
+            "update 2 1 -> the value made at d.rs:1:1 is gone | 0=7(0) 1=7(0)",
+            "clear_gone 2 -> the value made at d.rs:1:1 is gone | 0=7(0) 1=7(0)",
+            "take_child 1 0 -> took 0 | 0=7 1=7",
+        ],
     ),
-    done!(
-        Act::Remove(0),
-        &[None, Some((1, &[0])), Some((2, &[0])), None],
-    ),
-    gone!(
-        Act::Append(1, 0),
-        &[None, Some((1, &[0])), Some((2, &[0])), None],
-    ),
-];
-
-const WHAT_IS_SET_SHOWS_AT_EACH_PLACE: &[Line] = &[
-    done!(Act::Add(5), &[Some((5, &[]))]),
-    done!(Act::Repeat(0), &[Some((5, &[])), Some((5, &[]))]),
-    done!(
-        Act::Add(8),
-        &[Some((5, &[])), Some((5, &[])), Some((8, &[]))],
-    ),
-    done!(
-        Act::Append(1, 2),
-        &[Some((5, &[2])), Some((5, &[2])), Some((8, &[]))],
-    ),
-    done!(
-        Act::Append(0, 2),
-        &[Some((5, &[2, 2])), Some((5, &[2, 2])), Some((8, &[]))],
-    ),
-    done!(
-        Act::Set(0, 6),
-        &[Some((6, &[2, 2])), Some((6, &[2, 2])), Some((8, &[]))],
-    ),
-    // The part lives on by its second place.
-    done!(Act::Remove(0), &[None, Some((6, &[2, 2])), Some((8, &[]))]),
-    gone!(Act::Repeat(0), &[None, Some((6, &[2, 2])), Some((8, &[]))]),
-    done!(Act::Remove(1), &[None, None, Some((8, &[]))]),
-    gone!(Act::Set(1, 9), &[None, None, Some((8, &[]))]),
-];
-
-const A_PLACE_THAT_IS_GONE_READS_NO_LATER_PART: &[Line] = &[
-    done!(Act::Add(1), &[Some((1, &[]))]),
-    done!(Act::Remove(0), &[None]),
-    // The free slots are taken again.
-    done!(Act::Add(2), &[None, Some((2, &[]))]),
-    gone!(Act::Remove(0), &[None, Some((2, &[]))]),
-    gone!(Act::Append(0, 1), &[None, Some((2, &[]))]),
-    // A part may stand below itself.
-    done!(Act::Append(1, 1), &[None, Some((2, &[1]))]),
-    done!(Act::Exchange(1, 1), &[None, Some((2, &[1]))]),
-    done!(Act::Remove(1), &[None, None]),
-];
-
-// Children that are inserted, taken out, and end.
-const CHILDREN_COME_AND_GO: &[Line] = &[
-    done!(Act::Add(1), &[Some((1, &[]))]),
-    done!(Act::Repeat(0), &[Some((1, &[])), Some((1, &[]))]),
-    done!(
-        Act::Add(2),
-        &[Some((1, &[])), Some((1, &[])), Some((2, &[]))],
-    ),
-    // The children are those of both places of a part.
-    done!(
-        Act::Insert(0, 0, 2),
-        &[Some((1, &[2])), Some((1, &[2])), Some((2, &[]))],
-    ),
-    done!(
-        Act::Insert(1, 0, 0),
-        &[Some((1, &[0, 2])), Some((1, &[0, 2])), Some((2, &[]))],
-    ),
-    gone!(
-        Act::Insert(0, 3, 2),
-        &[Some((1, &[0, 2])), Some((1, &[0, 2])), Some((2, &[]))],
-    ),
-    done!(
-        Act::Insert(0, 2, 1),
-        &[Some((1, &[0, 2, 1])), Some((1, &[0, 2, 1])), Some((2, &[]))],
-    ),
-    gone!(
-        Act::Take(0, 3, 0),
-        &[Some((1, &[0, 2, 1])), Some((1, &[0, 2, 1])), Some((2, &[]))],
-    ),
-    done!(
-        Act::Take(0, 2, 1),
-        &[Some((1, &[0, 2])), Some((1, &[0, 2])), Some((2, &[]))],
-    ),
-    done!(
-        Act::Update(1, 6),
-        &[Some((7, &[0, 2])), Some((7, &[0, 2])), Some((2, &[]))],
-    ),
-    // A child that went is listed until it is cleared away.
-    done!(
-        Act::Remove(2),
-        &[Some((7, &[0, 2])), Some((7, &[0, 2])), None],
-    ),
-    done!(Act::Clear(1), &[Some((7, &[0])), Some((7, &[0])), None]),
-    gone!(
-        Act::Insert(0, 0, 2),
-        &[Some((7, &[0])), Some((7, &[0])), None],
-    ),
-    gone!(Act::Update(2, 1), &[Some((7, &[0])), Some((7, &[0])), None]),
-    gone!(Act::Clear(2), &[Some((7, &[0])), Some((7, &[0])), None]),
-    done!(Act::Take(1, 0, 0), &[Some((7, &[])), Some((7, &[])), None]),
 ];
 
 #[test]
 fn histories_of_documents(rt: HostRuntime) {
-    play_lines(&rt, rt.alloc(), A_HEADING_IS_EXCHANGED_ON_EACH_PAGE);
-    play_lines(&rt, rt.alloc(), WHAT_IS_SET_SHOWS_AT_EACH_PLACE);
-    play_lines(&rt, rt.alloc(), A_PLACE_THAT_IS_GONE_READS_NO_LATER_PART);
-    play_lines(&rt, rt.alloc(), CHILDREN_COME_AND_GO);
+    for history in HISTORIES {
+        play_both::<u32, Told>(&rt, rt.alloc(), &Told(history));
+    }
 }

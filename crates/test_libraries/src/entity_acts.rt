@@ -1,35 +1,21 @@
-//! What is done to a table of entities, one act a line, with what must come of it.
+//! The commands of histories of tables of entities, each named like the call that it makes.
+//!
+//! | command                                      | reply, if not an error |
+//! |----------------------------------------------|------------------------|
+//! | `spawn ELEMENT`, `despawn ENTITY`            | `ok`                   |
+//! | `set ENTITY ELEMENT`, `update ENTITY MORE`   | `ok`                   |
+//! | `retain BOUND`, `clear`                      | `ok`                   |
+//!
+//! `update` adds to an element, and `retain` keeps the entities whose elements are below a number. The
+//! state has each live entity, in the order of their slots, as `ENTITY=ELEMENT`.
 
 use crate::expected::{answered, assert_same, given};
-use entity_table::{ComponentTable, Entity, EntityTable, Stale};
+use crate::rows::{Made, Subject, Words, write_reply};
+use entity_table::{ComponentTable, Entity, EntityKind, EntityTable, Stale};
 use generational_box::{Location, Storage};
 use std::alloc::Global;
+use std::fmt::Write;
 use std::process::Abort;
-
-/// An act. Entities are named by the order in which they were spawned, from 0.
-#[derive(Clone, Copy)]
-pub(crate) enum Act {
-    Spawn(u64),
-    Despawn(usize),
-    Set(usize, u64),
-    /// Adds to an element in place.
-    Add(usize, u64),
-    /// Keeps the entities whose elements are below a number.
-    Retain(u64),
-    Clear,
-}
-
-/// An act, with what must come of it.
-#[derive(Clone, Copy)]
-pub(crate) struct Line {
-    pub(crate) act: Act,
-    /// Whether it is carried out. Only a stale entity's isn't.
-    pub(crate) done: bool,
-    /// The live entities afterwards, in the order of their slots.
-    pub(crate) rows: &'static [usize],
-    /// What each entity shows afterwards, in the order in which they were spawned.
-    pub(crate) shows: &'static [Option<u64>],
-}
 
 /// Where an entity is made: each at a line of its own, by its number.
 pub(crate) fn made_at(number: usize) -> Location {
@@ -65,70 +51,6 @@ pub(crate) fn give<C: Drop>(
     given(rt, table.insert(entity, component));
 }
 
-/// Does each line's act to a table, and sees what comes of it.
-pub(crate) fn play<S: Storage<u64>>(
-    rt: &impl Abort,
-    alloc: Global,
-    table: &mut EntityTable<u64, S>,
-    lines: &[Line],
-) {
-    let mut entities = Vec::new(alloc);
-    for line in lines {
-        assert_same(
-            rt,
-            &carries_out(rt, table, &mut entities, line.act),
-            &line.done,
-        );
-        stands(rt, table, &entities, line.rows);
-        shows(rt, table, &entities, line.shows);
-    }
-}
-
-/// Does an act, and says whether it was carried out.
-fn carries_out<S: Storage<u64>>(
-    rt: &impl Abort,
-    table: &mut EntityTable<u64, S>,
-    entities: &mut Vec<Entity<u64>>,
-    act: Act,
-) -> bool {
-    match act {
-        Act::Spawn(element) => {
-            let spawned = table.spawn(element, made_at(entities.len()));
-            entities.push(given(rt, spawned)).is_ok()
-        }
-        Act::Despawn(number) => {
-            let entity = entity_at(rt, entities, number);
-            told(rt, table.despawn(entity), number)
-        }
-        Act::Set(number, element) => {
-            let entity = entity_at(rt, entities, number);
-            told(rt, set(rt, table, entity, element), number)
-        }
-        Act::Add(number, more) => {
-            let entity = entity_at(rt, entities, number);
-            told(rt, add(rt, table, entity, more), number)
-        }
-        Act::Retain(bound) => {
-            table.retain(|element| *element < bound);
-            true
-        }
-        Act::Clear => {
-            table.clear();
-            true
-        }
-    }
-}
-
-/// Sets an entity's element. It comes back if that fails.
-fn set<S: Storage<u64>>(
-    rt: &impl Abort,
-    table: &mut EntityTable<u64, S>,
-    entity: Entity<u64>,
-    element: u64,
-) -> Result<(), Stale> {
-    answered(rt, table.set(entity, element), &element)
-}
-
 /// Adds to an entity's element in place. The closure is called only if it is carried out.
 pub(crate) fn add<S: Storage<u64>>(
     rt: &impl Abort,
@@ -144,82 +66,138 @@ pub(crate) fn add<S: Storage<u64>>(
     answer
 }
 
-/// An entity by its number.
-fn entity_at(rt: &impl Abort, entities: &[Entity<u64>], number: usize) -> Entity<u64> {
-    entities.get(number).copied().expect(rt, "an entity")
+/// A table, and the entities that were spawned.
+#[derive(Drop)]
+pub(crate) struct Census<S: Storage<u64>> {
+    alloc: Global,
+    table: EntityTable<u64, S>,
+    entities: Made<u64, EntityKind>,
 }
 
-/// Whether a result is Ok. An error says where the entity was made.
-fn told(rt: &impl Abort, answer: Result<(), Stale>, number: usize) -> bool {
-    match answer {
-        Ok(()) => true,
-        Err(stale) => {
-            assert_same(rt, &stale.created_at, &Some(made_at(number)));
-            false
+impl<S: Storage<u64>> Census<S> {
+    /// A table over a new store.
+    pub(crate) fn new(rt: &impl Abort, alloc: Global, store: S) -> Census<S> {
+        Census {
+            alloc,
+            table: entities_over(rt, alloc, store),
+            entities: Made::new(alloc),
         }
     }
-}
 
-/// Sees which entities are live, in order, by the walk and slot by slot.
-fn stands<S: Storage<u64>>(
-    rt: &impl Abort,
-    table: &EntityTable<u64, S>,
-    entities: &[Entity<u64>],
-    rows: &[usize],
-) {
-    assert_same(rt, &table.len(), &rows.len());
-    for ((entity, _), number) in table.iter().zip(rows) {
-        assert_same(rt, &entity.id(), &entity_at(rt, entities, *number).id());
+    fn spawn(&mut self, rt: &impl Abort, words: &mut Words<'_>) -> Result<(), Stale> {
+        let spawned = self
+            .table
+            .spawn(words.number(rt), made_at(self.entities.next()));
+        self.entities.add(rt, given(rt, spawned));
+        Ok(())
     }
-    stands_at(rt, table, entities, rows);
+
+    fn despawn(&mut self, rt: &impl Abort, words: &mut Words<'_>) -> Result<(), Stale> {
+        let entity = self.entities.named(rt, words);
+        self.table.despawn(entity)
+    }
+
+    // Sets an element. It comes back if that fails.
+    fn set(&mut self, rt: &impl Abort, words: &mut Words<'_>) -> Result<(), Stale> {
+        let entity = self.entities.named(rt, words);
+        let element = words.number(rt);
+        answered(rt, self.table.set(entity, element), &element)
+    }
+
+    fn update(&mut self, rt: &impl Abort, words: &mut Words<'_>) -> Result<(), Stale> {
+        let entity = self.entities.named(rt, words);
+        add(rt, &mut self.table, entity, words.number(rt))
+    }
+
+    fn retain(&mut self, rt: &impl Abort, words: &mut Words<'_>) -> Result<(), Stale> {
+        let bound = words.number(rt);
+        self.table.retain(|element| *element < bound);
+        Ok(())
+    }
+
+    fn clear(&mut self) -> Result<(), Stale> {
+        self.table.clear();
+        Ok(())
+    }
 }
 
-/// Sees which slots have a live entity.
-fn stands_at<S: Storage<u64>>(
+impl<S: Storage<u64>> Subject for Census<S> {
+    fn carry_out<R: Abort>(&mut self, rt: &R, words: &mut Words<'_>, text: &mut String) {
+        let answer = match words.word() {
+            "spawn" => self.spawn(rt, words),
+            "despawn" => self.despawn(rt, words),
+            "set" => self.set(rt, words),
+            "update" => self.update(rt, words),
+            "retain" => self.retain(rt, words),
+            "clear" => self.clear(),
+            _ => panic!(rt; "no such command"),
+        };
+        write_reply(rt, text, answer);
+    }
+
+    fn show<R: Abort>(&mut self, rt: &R, text: &mut String) {
+        let list = walked(rt, self.alloc, &self.table);
+        write_live(rt, &self.table, &self.entities, &list, text);
+        let mut live: usize = 0;
+        for (number, entity) in self.entities.all().iter().enumerate() {
+            if self.table.is_alive(*entity) {
+                live = live.wrapping_add(1);
+            } else {
+                let stale = Stale {
+                    created_at: Some(made_at(number)),
+                };
+                assert_same(rt, &self.table.get(*entity).copied(), &Err(stale));
+            }
+        }
+        assert_same(rt, &self.table.len(), &live);
+    }
+}
+
+/// The live entities, as the walk over the table yields them with what they have.
+fn walked<S: Storage<u64>>(
+    rt: &impl Abort,
+    alloc: Global,
+    table: &EntityTable<u64, S>,
+) -> Vec<Entity<u64>> {
+    let mut list = Vec::new(alloc);
+    for (entity, element) in table.iter() {
+        assert_same(rt, &table.get(entity).copied(), &Ok(*element));
+        given(rt, list.push(entity));
+    }
+    list
+}
+
+/// Writes the live entities, slot by slot: those of a list.
+fn write_live<S: Storage<u64>>(
     rt: &impl Abort,
     table: &EntityTable<u64, S>,
-    entities: &[Entity<u64>],
-    rows: &[usize],
+    entities: &Made<u64, EntityKind>,
+    list: &[Entity<u64>],
+    text: &mut String,
 ) {
-    let mut rest = rows;
+    let mut rest = list;
     for slot in 0..table.slots() {
         if let Some(entity) = table.at(slot) {
-            let Some((number, others)) = rest.split_first() else {
-                assert!(rt; false);
-                return;
+            let Some((first, others)) = rest.split_first() else {
+                panic!(rt; "an entity that the walk left out")
             };
-            assert_same(rt, &entity.id(), &entity_at(rt, entities, *number).id());
+            assert_same(rt, &first.id(), &entity.id());
+            write_one(rt, table, entities, entity, text);
             rest = others;
         }
     }
     assert!(rt; rest.is_empty());
 }
 
-/// Sees what each entity shows.
-fn shows<S: Storage<u64>>(
+/// Writes an entity by its number, with its element.
+fn write_one<S: Storage<u64>>(
     rt: &impl Abort,
     table: &EntityTable<u64, S>,
-    entities: &[Entity<u64>],
-    shows: &[Option<u64>],
-) {
-    assert_same(rt, &entities.len(), &shows.len());
-    let mut number: usize = 0;
-    for (entity, shown) in entities.iter().zip(shows) {
-        let stale = Stale {
-            created_at: Some(made_at(number)),
-        };
-        has_element(rt, table, *entity, shown.ok_or(stale));
-        number = number.wrapping_add(1);
-    }
-}
-
-/// Sees what an entity shows.
-fn has_element<S: Storage<u64>>(
-    rt: &impl Abort,
-    table: &EntityTable<u64, S>,
+    entities: &Made<u64, EntityKind>,
     entity: Entity<u64>,
-    shown: Result<u64, Stale>,
+    text: &mut String,
 ) {
-    assert_same(rt, &table.is_alive(entity), &shown.is_ok());
-    assert_same(rt, &table.get(entity).copied(), &shown);
+    let number = entities.number_of(rt, entity);
+    let element = given(rt, table.get(entities.at(rt, number)).copied());
+    given(rt, write!(text, " {number}={element}"));
 }

@@ -3,7 +3,7 @@
 
 use example_libraries::memos::Formula;
 use generational_box::{Location, Storage, StoreError};
-use reactive::{Effects, Fault, Key, Node, Reactive, Scope, Told};
+use reactive::{Fault, Key, Node, Reactive, Scope, Told};
 
 /// The calls of a graph.
 pub(crate) trait Graph {
@@ -28,11 +28,14 @@ pub(crate) trait Graph {
     /// The same, looked at in place.
     fn seen(&mut self, key: Key) -> Result<u64, Fault>;
 
-    fn flush(
-        &mut self,
-        effects: &mut Effects<u64>,
-        told: &mut Vec<Told<u64>>,
-    ) -> Result<(), StoreError>;
+    fn watch(&mut self, key: Key, tag: u64) -> Result<Option<(Key, u64)>, Fault>;
+
+    fn unwatch(&mut self, key: Key);
+
+    fn flush(&mut self, told: &mut Vec<Told<u64>>) -> Result<(), StoreError>;
+
+    /// Whether a node is in the graph.
+    fn is_live(&self, key: Key) -> bool;
 
     /// Whether a node is known without a step.
     fn is_known(&self, key: Key) -> bool;
@@ -93,12 +96,20 @@ impl<S: Storage<Node<u64, Formula>>> Graph for Tested<Reactive<u64, Formula, S>>
         Ok(self.0.peek(key).copied().unwrap_or(0))
     }
 
-    fn flush(
-        &mut self,
-        effects: &mut Effects<u64>,
-        told: &mut Vec<Told<u64>>,
-    ) -> Result<(), StoreError> {
-        effects.flush(&mut self.0, told)
+    fn watch(&mut self, key: Key, tag: u64) -> Result<Option<(Key, u64)>, Fault> {
+        self.0.watch(key, tag)
+    }
+
+    fn unwatch(&mut self, key: Key) {
+        self.0.unwatch(key);
+    }
+
+    fn flush(&mut self, told: &mut Vec<Told<u64>>) -> Result<(), StoreError> {
+        self.0.flush(told)
+    }
+
+    fn is_live(&self, key: Key) -> bool {
+        self.0.is_live(key)
     }
 
     fn is_known(&self, key: Key) -> bool {

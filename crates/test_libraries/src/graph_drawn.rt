@@ -4,13 +4,12 @@ use crate::graph_calls::Graph;
 use crate::graph_lines::Answer::{AnyFault, Gone, NoSource, Value};
 use crate::graph_lines::{Course, Line, Table, take_whole};
 use crate::graph_plain::{Plain, node_at, value_at};
+use crate::graph_runs::{NODES, Runs};
+use reactive::Fault;
 use std::process::Abort;
 
-/// How many nodes are known at once.
-const NODES: usize = 12;
-
-/// The places of these nodes, and of one that has ended forever.
-const PLACES: [usize; 13] = [0, 1, 2, 3, 4, 5, 6, 7, 8, 9, 10, 11, 12];
+/// The places of these nodes.
+const PLACES: [usize; NODES] = [0, 1, 2, 3, 4, 5, 6, 7, 8, 9, 10, 11];
 
 /// So many drawn calls.
 #[derive(Clone, Copy)]
@@ -19,13 +18,14 @@ pub(crate) struct Calls {
     pub(crate) count: u64,
 }
 
-/// What is known of a graph: which nodes it has, what each is, by its place among them, and what was
-/// last told of it.
+/// What is known of a graph: which nodes it has, what each is, by its place among them, what was last
+/// told of it, and what it came to.
 #[derive(Drop)]
 struct World {
     numbers: [usize; NODES],
     plains: [Plain; NODES],
     seen: [Option<Option<u64>>; NODES],
+    runs: Runs,
     // how many nodes were made, and how many lines carried out
     made: usize,
     lines: usize,
@@ -92,6 +92,7 @@ impl World {
         let rule = plain.of(&self.numbers);
         self.carry_out(rt, table, Line::SetRule(node, rule));
         self.put(place, plain);
+        self.runs.reset(place);
     }
 
     fn end(&mut self, rt: &impl Abort, table: &mut Table<impl Graph>, place: usize) {
@@ -110,12 +111,9 @@ impl World {
         self.carry_out(rt, table, Line::Unwatch(old));
         self.carry_out(rt, table, Line::Watch(node));
         self.made = node.wrapping_add(1);
-        let mut places = PLACES;
-        if let Some(gone) = places.get_mut(place) {
-            *gone = NODES;
-        }
-        self.plains = self.plains.map(|plain| plain.of(&places));
+        self.plains = self.plains.map(|plain| plain.of(&gone(place)));
         self.put(place, Plain::Value(value));
+        self.runs.reset(place);
         if let (Some(number), Some(seen)) = (
             self.numbers.get_mut(place),
             self.seen.get_mut(place),
@@ -130,13 +128,22 @@ impl World {
         let node = node_at(&self.numbers, place);
         let value = self.below(3);
         match self.plain(place) {
-            Plain::Value(_) => {
+            Plain::Value(before) => {
                 self.carry_out(rt, table, Line::Set(node, value));
                 self.put(place, Plain::Value(value));
+                if before != value {
+                    self.runs.reset(place);
+                }
             }
             Plain::Ended => self.carry_out(rt, table, Line::Unset(node, Gone(node))),
             _ => self.carry_out(rt, table, Line::Unset(node, NoSource(node))),
         }
+    }
+
+    /// Whether as many rules were run for these nodes as a plain recomputation has to run.
+    fn has_run(&mut self, table: &Table<impl Graph>, wanted: [bool; NODES]) -> bool {
+        let values = self.recomputed();
+        self.runs.settle(&self.plains, &values, &wanted) == table.ran()
     }
 
     /// Asks for a node.
@@ -144,6 +151,8 @@ impl World {
         let wanted = value_at(&self.recomputed(), place).map_or(AnyFault, Value);
         let node = node_at(&self.numbers, place);
         self.carry_out(rt, table, Line::Answers(node, wanted));
+        let asked = PLACES.map(|other| other == place);
+        assert!(rt; self.has_run(table, asked));
     }
 
     /// Flushes: what each watched node meant at the last flush, and what was reported since, is what it
@@ -155,13 +164,15 @@ impl World {
             for (number, seen) in self.numbers.iter().zip(self.seen.iter_mut()) {
                 if table.key(rt, *number) == change.key {
                     let value = change.answer.ok();
-                    assert!(rt; *seen != Some(value));
+                    let has_ended = change.answer == Err(Fault::Gone(change.key));
+                    assert!(rt; has_ended || *seen != Some(value));
                     *seen = Some(value);
                 }
             }
         }
         let values = self.recomputed().map(Some);
         assert!(rt; self.seen == values);
+        assert!(rt; self.has_run(table, [true; NODES]));
     }
 
     /// One drawn call on both, and a comparison of one node.
@@ -170,7 +181,11 @@ impl World {
         match self.below(12) {
             0 | 1 => self.redirect(rt, table, place),
             2 => self.end(rt, table, place),
-            3 => self.replace(rt, table, place),
+            3 => {
+                // removed nodes are reported first: no effect of one is left in a slot that is taken again
+                self.flush(rt, table);
+                self.replace(rt, table, place);
+            }
             4 | 5 | 6 => self.set(rt, table, place),
             7 => self.flush(rt, table),
             _ => {}
@@ -180,12 +195,22 @@ impl World {
     }
 }
 
+/// The places of these nodes, and of one that was removed for ever: that of a node, and of all that were.
+fn gone(place: usize) -> [usize; 13] {
+    let mut places = [0, 1, 2, 3, 4, 5, 6, 7, 8, 9, 10, 11, 12];
+    if let Some(removed) = places.get_mut(place) {
+        *removed = NODES;
+    }
+    places
+}
+
 impl Course for Calls {
     fn take<R: Abort, G: Graph>(&self, rt: &R, table: &mut Table<G>) {
         let mut world = World {
             numbers: [0; NODES],
             plains: [Plain::Value(1); NODES],
             seen: [None; NODES],
+            runs: Runs::new(),
             made: 1,
             lines: 0,
             state: self.seed,

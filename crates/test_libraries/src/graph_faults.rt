@@ -1,11 +1,11 @@
 //! The errors of nodes that mean nothing, which comes first, and its text.
 
-use crate::graph_lines::Answer::{AnyCycle, Cycle, Gone, NoSource, NoValue, Short};
+use crate::graph_lines::Answer::{AnyCycle, Cycle, Gone, NoSource, NoValue, Short, Value};
 use crate::graph_lines::Line::{
-    Answers, EndScope, Memo, Prints, SetRule, Shows, Source, SourceIn, Unknown, Unruled, Unset,
+    Answers, EndScope, Memo, Prints, Set, SetRule, Shows, Source, SourceIn, Unknown, Unruled, Unset,
 };
 use crate::graph_lines::{Lines, take_whole};
-use crate::graph_plain::Plain::{Add, Blank, Same};
+use crate::graph_plain::Plain::{Add, Blank, Pick, Same};
 
 #[test]
 fn what_has_ended_is_told_by_name(rt: HostRuntime) {
@@ -57,6 +57,41 @@ fn cycles_are_told_and_can_be_broken(rt: HostRuntime) {
         SetRule(0, Same(4)),
         SetRule(1, Same(4)),
         Shows(3, 8, 4),
+    ]);
+    take_whole(&rt, rt.alloc(), &lines);
+}
+
+#[test]
+fn a_fault_lasts_until_its_cause_goes(rt: HostRuntime) {
+    let lines = Lines(&[
+        Source(0),
+        Source(5),
+        SourceIn(6),
+        Memo(Pick(0, 1, 2)),
+        Memo(Same(3)),
+        Shows(4, 6, 2),
+        EndScope,
+        Answers(4, Gone(2)),
+        Answers(3, Gone(2)),
+        // by a set
+        Set(0, 1),
+        Shows(4, 5, 2),
+        Set(0, 0),
+        Answers(4, Gone(2)),
+        // by a rule
+        SetRule(3, Blank),
+        Answers(4, NoValue(3)),
+        SetRule(3, Same(4)),
+        Answers(4, AnyCycle),
+        Answers(3, AnyCycle),
+        SetRule(3, Same(1)),
+        Answers(4, Value(5)),
+        // and not by a new node in the slot of the one that ended
+        Memo(Same(2)),
+        Answers(5, Gone(2)),
+        Source(9),
+        Answers(5, Gone(2)),
+        Shows(6, 9, 0),
     ]);
     take_whole(&rt, rt.alloc(), &lines);
 }

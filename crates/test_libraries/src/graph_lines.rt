@@ -6,7 +6,7 @@ use crate::graph_calls::{Graph, Tested};
 use crate::graph_plain::Plain;
 use example_libraries::memos::Formula;
 use generational_box::{Storage, StoreError};
-use reactive::{Effects, Fault, Key, Node, Reactive, Scope, Told};
+use reactive::{Fault, Key, Node, Reactive, Scope, Told};
 use std::alloc::Global;
 use std::mem;
 use std::process::Abort;
@@ -32,7 +32,7 @@ pub(crate) enum Answer {
     Short,
 }
 
-/// What is done with a graph, and with one scope and one list of effects.
+/// What is done with a graph, and with one scope.
 #[derive(Clone, Copy)]
 pub(crate) enum Line<'a> {
     Source(u64),
@@ -44,6 +44,8 @@ pub(crate) enum Line<'a> {
     Chain(usize, usize, u64),
     /// Makes so many pairs of memos over a node, of which each adds both nodes of the pair below.
     Ladder(usize, u64),
+    /// Makes so many memos that read a node, and watches them.
+    Watchers(usize, u64),
     Set(usize, u64),
     SetRule(usize, Plain),
     End(usize),
@@ -62,6 +64,8 @@ pub(crate) enum Line<'a> {
     /// This node isn't known without a step.
     Unknown(usize),
     Watch(usize),
+    /// Watches a node, whose effect replaces another's.
+    WatchFor(usize, usize),
     Unwatch(usize),
     /// A flush. What it tells is kept.
     Flush,
@@ -76,7 +80,6 @@ pub(crate) struct Table<G> {
     alloc: Global,
     graph: G,
     keys: Vec<Key>,
-    effects: Effects<u64>,
     scope: Scope,
     told: Vec<Told<u64>>,
     // how often a rule had come to a value before the line
@@ -97,6 +100,11 @@ impl<G: Graph> Table<G> {
             self.refused = self.refused.saturating_add(1);
         }
         rt.abort()
+    }
+
+    /// How many rules came to a value for the last line.
+    pub(crate) fn ran(&self) -> u64 {
+        self.graph.runs().wrapping_sub(self.runs)
     }
 
     /// What flushes have told since this was asked.
@@ -172,6 +180,18 @@ impl<G: Graph> Table<G> {
         }
     }
 
+    fn watchers(&mut self, rt: &impl Abort, read: Key, count: u64) {
+        for tag in 0..count {
+            let key = self
+                .graph
+                .memo(Formula::Same(read))
+                .ok()
+                .expect(rt, "a memo");
+            assert!(rt; self.keep(key));
+            assert!(rt; self.graph.watch(key, tag) == Ok(None));
+        }
+    }
+
     /// Makes many nodes, if a line says so.
     fn is_built(&mut self, rt: &impl Abort, line: Line<'_>) -> bool {
         match line {
@@ -183,6 +203,11 @@ impl<G: Graph> Table<G> {
             Line::Ladder(foot, count) => {
                 let foot = self.key(rt, foot);
                 self.ladder(rt, foot, count);
+                true
+            }
+            Line::Watchers(read, count) => {
+                let read = self.key(rt, read);
+                self.watchers(rt, read, count);
                 true
             }
             _ => false,
@@ -231,7 +256,7 @@ impl<G: Graph> Table<G> {
                 let key = self.key(rt, node);
                 let answer = self.answer(key)?;
                 let is_right = answer == Ok(value)
-                    && self.graph.runs().wrapping_sub(self.runs) == runs
+                    && self.ran() == runs
                     && self.graph.seen(key) == answer;
                 Some(is_right)
             }
@@ -257,23 +282,36 @@ impl<G: Graph> Table<G> {
         match line {
             Line::Watch(node) => {
                 let key = self.key(rt, node);
-                self.effects.watch(key).ok()?;
-                Some(true)
+                self.is_watched(key, node, None)
+            }
+            Line::WatchFor(node, other) => {
+                let key = self.key(rt, node);
+                let before = (self.key(rt, other), other as u64);
+                self.is_watched(key, node, Some(before))
             }
             Line::Unwatch(node) => {
                 let key = self.key(rt, node);
-                self.effects.unwatch(key);
+                self.graph.unwatch(key);
                 Some(true)
             }
             Line::Flush => {
-                self.graph.flush(&mut self.effects, &mut self.told).ok()?;
+                self.graph.flush(&mut self.told).ok()?;
                 Some(true)
             }
             Line::Tells(wanted) => {
-                self.graph.flush(&mut self.effects, &mut self.told).ok()?;
+                self.graph.flush(&mut self.told).ok()?;
                 Some(self.has_told(rt, wanted))
             }
             _ => Some(false),
+        }
+    }
+
+    /// Watches a node, and returns whether this takes the place of that effect. None if it fails to allocate.
+    fn is_watched(&mut self, key: Key, node: usize, wanted: Option<(Key, u64)>) -> Option<bool> {
+        match self.graph.watch(key, node as u64) {
+            Ok(before) => Some(before == wanted),
+            Err(fault) if fault == SHORT => None,
+            Err(_) => Some(false),
         }
     }
 
@@ -314,7 +352,10 @@ impl<G: Graph> Table<G> {
             return false;
         }
         for (change, row) in told.iter().zip(wanted.iter()) {
-            if change.key != self.key(rt, row.0) || !self.is(rt, change.answer, row.1) {
+            if change.key != self.key(rt, row.0)
+                || change.tag != row.0 as u64
+                || !self.is(rt, change.answer, row.1)
+            {
                 return false;
             }
         }
@@ -359,7 +400,6 @@ impl<'a, P: Course> Scene<Node<u64, Formula>> for OverGraph<'a, P> {
             alloc,
             graph: Tested(Reactive::new(alloc, store)),
             keys: Vec::new(alloc),
-            effects: Effects::new(alloc),
             scope: Scope::new(alloc),
             told: Vec::new(alloc),
             runs: 0,
@@ -370,7 +410,6 @@ impl<'a, P: Course> Scene<Node<u64, Formula>> for OverGraph<'a, P> {
             alloc: _,
             graph: _,
             keys: _,
-            effects: _,
             scope,
             told: _,
             runs: _,

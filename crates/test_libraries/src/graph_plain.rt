@@ -47,6 +47,19 @@ impl Plain {
         }
     }
 
+    /// What the node reads by what others gave, in order: up to the first that gave nothing.
+    pub(crate) fn reads(self, values: &[Option<u64>]) -> [Option<usize>; 2] {
+        match self {
+            Plain::Ended | Plain::Value(_) | Plain::Blank => [None, None],
+            Plain::Same(a) | Plain::Odd(a) => [Some(a), None],
+            Plain::Add(a, b) => [Some(a), value_at(values, a).map(|_| b)],
+            Plain::Pick(test, a, b) => {
+                let next = value_at(values, test).map(|tested| if tested != 0 { a } else { b });
+                [Some(test), next]
+            }
+        }
+    }
+
     /// The same of other nodes, each the one at that index of the list.
     pub(crate) fn of(self, nodes: &[usize]) -> Plain {
         match self {

@@ -6,6 +6,9 @@ use crate::document_memory::{add_or_again, append_or_again};
 use crate::entity_acts::{entities_over, give, spawn};
 use crate::expected::given;
 use crate::fresh::{Scene, play};
+use crate::graph_calls::Graph;
+use crate::graph_lines::Line::{Chain, End, Flush, Set, Source, Watchers};
+use crate::graph_lines::{Course, Lines, Table, take_whole};
 use crate::session_acts::sessions_over;
 use crate::session_limits::{log_in, put};
 use crate::signal_calls::{end, first_made, scope, signal};
@@ -17,10 +20,10 @@ use std::alloc::Global;
 use std::process::Abort;
 
 /// How many things are added.
-const MANY: u64 = 20_000;
+pub(crate) const MANY: u64 = 20_000;
 
 /// How many sessions there are, and how many values a long one keeps.
-const ENTRIES: u64 = 100_000;
+pub(crate) const ENTRIES: u64 = 100_000;
 
 /// Spawns entities, each with a component.
 struct SpawnAll;
@@ -146,4 +149,35 @@ impl Scene<u64> for SignalAll {
 #[test]
 fn a_scopes_signals(rt: HostRuntime) {
     play::<u64, SignalAll>(&rt, rt.alloc(), &SignalAll);
+}
+
+/// A chain of memos, and watched ones that read its last. The chain's source ends, and other sources are set:
+/// no watched one walks the whole chain.
+#[derive(Clone, Copy)]
+struct WatchEnded;
+
+impl Course for WatchEnded {
+    fn take<R: Abort, G: Graph>(&self, rt: &R, table: &mut Table<G>) {
+        let made = [
+            Source(1),
+            Source(0),
+            Source(7),
+            Chain(0, 1, 5000),
+            Watchers(5002, 5000),
+        ];
+        Lines(&made).take(rt, table);
+        Lines(&[Flush]).take(rt, table);
+        assert!(rt; table.take_told().len() == 5000);
+        Lines(&[End(0), Flush]).take(rt, table);
+        assert!(rt; table.take_told().len() == 5000);
+        for value in 0..6 {
+            Lines(&[Set(2, value), Flush, Flush]).take(rt, table);
+            assert!(rt; table.take_told().is_empty());
+        }
+    }
+}
+
+#[test]
+fn watchers(rt: HostRuntime) {
+    take_whole(&rt, rt.alloc(), &WatchEnded);
 }

@@ -24,6 +24,12 @@ mod entity_limits;
 #[cfg(test)]
 mod entity_memory;
 #[cfg(test)]
+mod entity_sets;
+#[cfg(test)]
+mod entity_sparse;
+#[cfg(test)]
+mod entity_sparse_memory;
+#[cfg(test)]
 mod expected;
 #[cfg(test)]
 mod fresh;
@@ -46,6 +52,8 @@ mod graph_memory;
 #[cfg(test)]
 mod graph_plain;
 #[cfg(test)]
+mod graph_runs;
+#[cfg(test)]
 mod graph_texts;
 #[cfg(test)]
 mod growth;
@@ -54,7 +62,11 @@ mod leaps;
 #[cfg(test)]
 mod let_go;
 #[cfg(test)]
+mod rows;
+#[cfg(test)]
 mod session_acts;
+#[cfg(test)]
+mod session_blocks;
 #[cfg(test)]
 mod session_finds;
 #[cfg(test)]
@@ -65,6 +77,14 @@ mod session_histories;
 mod session_limits;
 #[cfg(test)]
 mod session_memory;
+#[cfg(test)]
+mod session_owners;
+#[cfg(test)]
+mod session_owners_memory;
+#[cfg(test)]
+mod session_puts;
+#[cfg(test)]
+mod session_puts_memory;
 #[cfg(test)]
 mod signal_calls;
 #[cfg(test)]

@@ -1,68 +1,29 @@
-//! What is done to a table of sessions, one act a line, with what must come of it.
+//! The commands of histories of tables of sessions, each named like the call that it makes.
+//!
+//! | command                                   | reply, if not an error                    |
+//! |-------------------------------------------|-------------------------------------------|
+//! | `login ID TIME`, `touch ID TIME`          | `ok`                                      |
+//! | `put ID VALUE`, `put_at ID KEY VALUE`     | `ok`                                      |
+//! | `set ENTRY VALUE`, `update ENTRY MORE`    | `ok`                                      |
+//! | `remove ID KEY`                           | `took VALUE`, or `no entry`               |
+//! | `rename ID OTHER`, `logout ID`            | `ok`                                      |
+//! | `expire TIME`                             | `ended COUNT`                             |
+//!
+//! The key of `put` is the number of the entry that it makes. `update` adds to a value. A `touch` or
+//! `logout` of an id without a session replies `no session`. The state has each session, in the order of
+//! their ids, as `ID@TIME`, and then each entry that isn't gone, in the order in which they were put, as
+//! `ENTRY=VALUE`.
 
 use crate::expected::{answered, assert_same, given};
+use crate::rows::{Made, Subject, Words, write_reply, write_text};
 use generational_box::{Location, Storage};
-use session_table::{Entry, LoginError, PutError, RenameError, SessionTable, Stale};
+use session_table::{Entry, EntryKind, SessionTable, Stale};
 use std::alloc::Global;
+use std::fmt::Write;
 use std::process::Abort;
 
-/// An act. Sessions are named by their ids, and entries by the order in which they were put, from 0.
-#[derive(Clone, Copy)]
-pub(crate) enum Act {
-    /// Begins a session of an id, at a time.
-    Login(u64, u64),
-    /// Puts a value into an id's session, under a key of its own: its number.
-    Put(u64, u64),
-    /// Puts a value into an id's session, under a key.
-    PutAt(u64, u64, u64),
-    /// Sets an entry's value.
-    Set(usize, u64),
-    /// Adds to an entry's value in place.
-    Add(usize, u64),
-    /// Takes out what an id's session has under a key.
-    Remove(u64, u64),
-    /// Notes the time of an id's last use.
-    Touch(u64, u64),
-    /// Gives an id's session another id.
-    Rename(u64, u64),
-    Logout(u64),
-    /// Ends the sessions that were last used before a time.
-    Expire(u64),
-}
-
-/// The result of an act.
-#[derive(Clone, Copy, Debug, PartialEq, Eq)]
-pub(crate) enum Reply {
-    Done,
-    /// The id has a session already.
-    IdInUse,
-    /// The id has no session.
-    NoSession,
-    /// The session has an entry under the key.
-    KeyInUse,
-    /// The entry is gone.
-    Stale,
-    /// The value that was under the key.
-    Took(u64),
-    /// The id has no session, or that no entry under the key.
-    NoEntry,
-    /// So many sessions ended.
-    Ended(usize),
-    /// The store failed.
-    Lacks,
-}
-
-/// An act, with what must come of it.
-#[derive(Clone, Copy)]
-pub(crate) struct Line {
-    pub(crate) act: Act,
-    /// Its result.
-    pub(crate) reply: Reply,
-    /// The sessions afterwards: the id of each, and the time of its last use.
-    pub(crate) sessions: &'static [(u64, u64)],
-    /// What each entry shows afterwards, in the order in which they were put.
-    pub(crate) shows: &'static [Option<u64>],
-}
+/// The ids of all sessions of histories are below this.
+const IDS: u64 = 10;
 
 /// Where a value is put: each at a line of its own, by its number.
 pub(crate) fn put_at(number: usize) -> Location {
@@ -86,140 +47,145 @@ pub(crate) fn sessions_over<T, S: Storage<T>>(
     SessionTable::new(alloc, store)
 }
 
-/// Does each line's act to a table, and sees what comes of it.
-pub(crate) fn play<S: Storage<u64>>(
-    rt: &impl Abort,
-    alloc: Global,
-    table: &mut SessionTable<u64, u64, u64, S>,
-    lines: &[Line],
-) {
-    let mut entries = Vec::new(alloc);
-    for line in lines {
-        let reply = answer(rt, table, &mut entries, line.act);
-        assert_same(rt, &reply, &line.reply);
-        stands(rt, table, line.sessions);
-        shows(rt, table, &entries, line.shows);
-    }
+/// A table, and the entries that were put. It must be consumed by `finish`.
+pub(crate) struct Desk<S: Storage<u64>> {
+    table: SessionTable<u64, u64, u64, S>,
+    entries: Made<u64, EntryKind>,
 }
 
-/// Does an act.
-fn answer<S: Storage<u64>>(
-    rt: &impl Abort,
-    table: &mut SessionTable<u64, u64, u64, S>,
-    entries: &mut Vec<Entry<u64>>,
-    act: Act,
-) -> Reply {
-    match act {
-        Act::Login(id, now) => logged_in(answered(rt, table.login(id, now), &id)),
-        Act::Put(id, value) => {
-            let key = entries.len() as u64;
-            put(rt, table, entries, (id, key), value)
+impl<S: Storage<u64>> Desk<S> {
+    /// A table over a new store.
+    pub(crate) fn new(rt: &impl Abort, alloc: Global, store: S) -> Desk<S> {
+        Desk {
+            table: sessions_over(rt, alloc, store),
+            entries: Made::new(alloc),
         }
-        Act::PutAt(id, key, value) => put(rt, table, entries, (id, key), value),
-        Act::Set(number, value) => set(rt, table, entry_at(rt, entries, number), number, value),
-        Act::Add(number, more) => add(rt, table, entry_at(rt, entries, number), number, more),
-        Act::Remove(id, key) => took(rt, table, id, key),
-        Act::Touch(id, now) => known(table.touch(&id, now)),
-        Act::Rename(id, to) => renamed(answered(rt, table.rename(&id, to), &to)),
-        Act::Logout(id) => known(table.logout(&id)),
-        Act::Expire(before) => Reply::Ended(table.expire(before)),
     }
-}
 
-/// The result of a login.
-fn logged_in(answer: Result<(), LoginError>) -> Reply {
-    match answer {
-        Ok(()) => Reply::Done,
-        Err(LoginError::IdInUse) => Reply::IdInUse,
-        Err(LoginError::Store(_)) => Reply::Lacks,
+    /// Asserts that nothing stays in the store once the table ends.
+    pub(crate) fn finish(self, rt: &impl Abort)
+    where
+        S: Drop,
+    {
+        let Desk { table, entries: _ } = self;
+        let left = table.finish();
+        assert!(rt; left.free() == left.slots());
     }
-}
 
-/// The result of a change of an id.
-fn renamed(answer: Result<(), RenameError>) -> Reply {
-    match answer {
-        Ok(()) => Reply::Done,
-        Err(RenameError::NoSession) => Reply::NoSession,
-        Err(RenameError::IdInUse) => Reply::IdInUse,
-        Err(RenameError::Store(_)) => Reply::Lacks,
+    fn login(&mut self, rt: &impl Abort, words: &mut Words<'_>, text: &mut String) {
+        let id = words.number(rt);
+        let answer = self.table.login(id, words.number(rt));
+        write_reply(rt, text, answered(rt, answer, &id));
     }
-}
 
-/// The result of a call on an id's session.
-fn known(had: bool) -> Reply {
-    if had { Reply::Done } else { Reply::NoSession }
-}
-
-/// Puts a value under a key, by which its entry is found. Both come back if that fails.
-fn put<S: Storage<u64>>(
-    rt: &impl Abort,
-    table: &mut SessionTable<u64, u64, u64, S>,
-    entries: &mut Vec<Entry<u64>>,
-    at: (u64, u64),
-    value: u64,
-) -> Reply {
-    let answer = table.put(&at.0, at.1, value, put_at(entries.len()));
-    match answered(rt, answer, &(at.1, value)) {
-        Ok(entry) => {
-            assert_same(rt, &table.entry(&at.0, &at.1), &Some(entry));
-            given(rt, entries.push(entry));
-            Reply::Done
+    // Puts a value under a key, by which its entry is found. Both come back if that fails.
+    fn put(&mut self, rt: &impl Abort, id: u64, key: u64, value: u64, text: &mut String) {
+        let answer = self.table.put(&id, key, value, put_at(self.entries.next()));
+        match answered(rt, answer, &(key, value)) {
+            Ok(entry) => {
+                assert_same(rt, &self.table.entry(&id, &key), &Some(entry));
+                self.entries.add(rt, entry);
+                write_text(rt, text, &"ok");
+            }
+            Err(error) => write_text(rt, text, &error),
         }
-        Err(PutError::NoSession) => Reply::NoSession,
-        Err(PutError::KeyInUse) => Reply::KeyInUse,
-        Err(PutError::Store(_)) => Reply::Lacks,
+    }
+
+    // Sets a value. It comes back if that fails.
+    fn set(&mut self, rt: &impl Abort, words: &mut Words<'_>, text: &mut String) {
+        let entry = self.entries.named(rt, words);
+        let value = words.number(rt);
+        let answer = answered(rt, self.table.set(entry, value), &value);
+        write_reply(rt, text, answer);
+    }
+
+    // Adds to a value in place. The closure is called only if the entry isn't stale.
+    fn update(&mut self, rt: &impl Abort, words: &mut Words<'_>, text: &mut String) {
+        let entry = self.entries.named(rt, words);
+        let mut left = Some(words.number(rt));
+        let answer = self.table.update(entry, |value: &mut u64| {
+            *value = value.wrapping_add(left.take().unwrap_or(0));
+        });
+        assert_same(rt, &left.is_none(), &answer.is_ok());
+        write_reply(rt, text, answer);
+    }
+
+    // Takes out what is under a key. It isn't found there any more, and the others keep their order.
+    fn remove(&mut self, rt: &impl Abort, words: &mut Words<'_>, text: &mut String) {
+        let id = words.number(rt);
+        let key = words.number(rt);
+        let had = self.table.entry(&id, &key).is_some();
+        let answer = self.table.remove(&id, &key);
+        assert_same(rt, &answer.is_some(), &had);
+        assert_same(rt, &self.table.entry(&id, &key), &None);
+        are_in_order(rt, &self.table, id);
+        match answer {
+            Some(value) => given(rt, write!(text, "took {value}")),
+            None => write_text(rt, text, &"no entry"),
+        }
+    }
+
+    fn rename(&mut self, rt: &impl Abort, words: &mut Words<'_>, text: &mut String) {
+        let id = words.number(rt);
+        let other = words.number(rt);
+        let answer = answered(rt, self.table.rename(&id, other), &other);
+        write_reply(rt, text, answer);
+    }
+
+    // Carries out a command of one id's session.
+    fn answer_of_one(
+        &mut self,
+        rt: &impl Abort,
+        word: &str,
+        words: &mut Words<'_>,
+        text: &mut String,
+    ) {
+        let id = words.number(rt);
+        let had = match word {
+            "touch" => self.table.touch(&id, words.number(rt)),
+            "logout" => self.table.logout(&id),
+            _ => panic!(rt; "no such command"),
+        };
+        write_text(rt, text, if had { &"ok" } else { &"no session" });
     }
 }
 
-/// Sets an entry's value. For a stale entry the error says where it was put, and the value comes back.
-fn set<S: Storage<u64>>(
-    rt: &impl Abort,
-    table: &mut SessionTable<u64, u64, u64, S>,
-    entry: Entry<u64>,
-    number: usize,
-    value: u64,
-) -> Reply {
-    let Err(cause) = answered(rt, table.set(entry, value), &value) else {
-        return Reply::Done;
-    };
-    assert_same(rt, &cause, &stale_of(number));
-    Reply::Stale
-}
-
-/// Adds to an entry's value in place. The closure is called only if the entry isn't stale.
-fn add<S: Storage<u64>>(
-    rt: &impl Abort,
-    table: &mut SessionTable<u64, u64, u64, S>,
-    entry: Entry<u64>,
-    number: usize,
-    more: u64,
-) -> Reply {
-    let mut left = Some(more);
-    let answer = table.update(entry, |value: &mut u64| {
-        *value = value.wrapping_add(left.take().unwrap_or(0));
-    });
-    assert_same(rt, &left.is_none(), &answer.is_ok());
-    if answer.is_ok() {
-        return Reply::Done;
+impl<S: Storage<u64>> Subject for Desk<S> {
+    fn carry_out<R: Abort>(&mut self, rt: &R, words: &mut Words<'_>, text: &mut String) {
+        match words.word() {
+            "login" => self.login(rt, words, text),
+            "put" => {
+                let id = words.number(rt);
+                let key = self.entries.next() as u64;
+                self.put(rt, id, key, words.number(rt), text);
+            }
+            "put_at" => {
+                let id = words.number(rt);
+                let key = words.number(rt);
+                self.put(rt, id, key, words.number(rt), text);
+            }
+            "set" => self.set(rt, words, text),
+            "update" => self.update(rt, words, text),
+            "remove" => self.remove(rt, words, text),
+            "rename" => self.rename(rt, words, text),
+            "expire" => {
+                let count = self.table.expire(words.number(rt));
+                given(rt, write!(text, "ended {count}"));
+            }
+            word => self.answer_of_one(rt, word, words, text),
+        }
     }
-    assert_same(rt, &answer, &Err(stale_of(number)));
-    Reply::Stale
+
+    fn show<R: Abort>(&mut self, rt: &R, text: &mut String) {
+        write_sessions(rt, &self.table, text);
+        for (number, entry) in self.entries.all().iter().enumerate() {
+            write_entry(rt, &self.table, *entry, number, text);
+        }
+    }
 }
 
-/// Takes out what is under a key. It isn't found there any more, and the others keep their order.
-fn took<S: Storage<u64>>(
-    rt: &impl Abort,
-    table: &mut SessionTable<u64, u64, u64, S>,
-    id: u64,
-    key: u64,
-) -> Reply {
-    let had = table.entry(&id, &key).is_some();
-    let answer = table.remove(&id, &key);
-    assert_same(rt, &answer.is_some(), &had);
-    assert_same(rt, &table.entry(&id, &key), &None);
-    let Some(value) = answer else {
-        return Reply::NoEntry;
-    };
+/// Sees that the keys of an id's entries ascend.
+fn are_in_order<S: Storage<u64>>(rt: &impl Abort, table: &SessionTable<u64, u64, u64, S>, id: u64) {
     let mut last = None;
     if let Some(session) = table.session(&id) {
         for (later, _) in session.entries() {
@@ -227,44 +193,48 @@ fn took<S: Storage<u64>>(
             last = Some(*later);
         }
     }
-    Reply::Took(value)
 }
 
-/// An entry by its number.
-fn entry_at(rt: &impl Abort, entries: &[Entry<u64>], number: usize) -> Entry<u64> {
-    entries.get(number).copied().expect(rt, "an entry")
-}
-
-/// Sees which sessions there are.
-fn stands<S: Storage<u64>>(
+/// Writes the sessions. The walk over the table gives the same ones.
+fn write_sessions<S: Storage<u64>>(
     rt: &impl Abort,
     table: &SessionTable<u64, u64, u64, S>,
-    sessions: &[(u64, u64)],
+    text: &mut String,
 ) {
-    assert_same(rt, &table.len(), &sessions.len());
-    for (id, used_at) in sessions {
-        let found = table.session(id).map(|session| session.used_at());
-        assert_same(rt, &found, &Some(*used_at));
+    let mut count: usize = 0;
+    for id in 0..IDS {
+        if let Some(session) = table.session(&id) {
+            given(rt, write!(text, " {id}@{}", session.used_at()));
+            count = count.wrapping_add(1);
+        }
     }
+    assert_same(rt, &table.len(), &count);
     for (id, session) in table.sessions() {
-        assert!(rt; sessions.contains(&(*id, session.used_at())));
+        let found = table.session(id).map(|session| session.used_at());
+        assert_same(rt, &found, &Some(session.used_at()));
+        count = count.wrapping_sub(1);
     }
+    assert_same(rt, &count, &0);
 }
 
-/// Sees what each entry shows.
-fn shows<S: Storage<u64>>(
+/// Writes what an entry shows. A call on one that is gone fails with where it was put.
+fn write_entry<S: Storage<u64>>(
     rt: &impl Abort,
     table: &SessionTable<u64, u64, u64, S>,
-    entries: &[Entry<u64>],
-    shows: &[Option<u64>],
+    entry: Entry<u64>,
+    number: usize,
+    text: &mut String,
 ) {
-    assert_same(rt, &entries.len(), &shows.len());
-    let mut number: usize = 0;
-    for (entry, shown) in entries.iter().zip(shows) {
-        assert_same(rt, &table.shows(*entry), &shown.is_some());
-        let stale = stale_of(number);
-        assert_same(rt, &table.get(*entry).copied(), &shown.ok_or(stale));
-        assert_same(rt, &table.created_at(*entry), &stale.created_at);
-        number = number.wrapping_add(1);
+    let stale = stale_of(number);
+    assert_same(rt, &table.created_at(entry), &stale.created_at);
+    match table.get(entry).copied() {
+        Ok(value) => {
+            assert!(rt; table.shows(entry));
+            given(rt, write!(text, " {number}={value}"));
+        }
+        Err(error) => {
+            assert!(rt; !table.shows(entry));
+            assert_same(rt, &error, &stale);
+        }
     }
 }

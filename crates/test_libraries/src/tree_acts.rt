@@ -1,63 +1,25 @@
-//! What is done to a tree, one act a line, with what must come of it.
+//! The commands of histories of trees, each named like the call that it makes.
+//!
+//! | command                                               | reply, if not an error      |
+//! |-------------------------------------------------------|-----------------------------|
+//! | `add_root VALUE`, `add_child NODE VALUE`               | `ok`                        |
+//! | `add_at SPOT VALUE`                                   | `ok`                        |
+//! | `set NODE VALUE`, `update NODE MORE`                  | `ok`                        |
+//! | `move_to NODE PARENT`, `move_at NODE SPOT`            | `ok`                        |
+//! | `detach NODE`                                         | `ok`                        |
+//! | `remove_subtree NODE`                                 | `removed NODE ..`, in order |
+//!
+//! A SPOT is `first_of NODE`, `last_of NODE`, `before NODE` or `after NODE`. `update` adds to a value. The
+//! state has each live node, in the order in which they were made, as `NODE=VALUE<PARENT(CHILD ..)`,
+//! without `<PARENT` for a root, and without the brackets if there is no child.
 
 use crate::expected::{answered, assert_same, given};
+use crate::rows::{Made, Subject, Words, write_numbers, write_reply, write_text};
 use generational_box::{Location, Storage};
-use scene_tree::{Node, SceneTree, Spot, Stale, TreeError};
+use scene_tree::{Node, NodeKind, SceneTree, Spot, Stale, TreeError};
 use std::alloc::Global;
+use std::fmt::Write;
 use std::process::Abort;
-
-/// Where a node is put, by another.
-#[derive(Clone, Copy)]
-pub(crate) enum Side {
-    FirstOf,
-    LastOf,
-    Before,
-    After,
-}
-
-/// An act. Nodes are named by the order in which they were made, from 0.
-#[derive(Clone, Copy)]
-pub(crate) enum Act {
-    Root(u64),
-    /// A child of a node, with a value.
-    Child(usize, u64),
-    /// A child at a spot beside or below a node, with a value.
-    ChildAt(Side, usize, u64),
-    Set(usize, u64),
-    /// Adds to a node's value.
-    Update(usize, u64),
-    /// Moves a node below another.
-    Move(usize, usize),
-    /// Moves a node to a spot beside or below another.
-    MoveAt(usize, Side, usize),
-    /// Makes a node a root.
-    Detach(usize),
-    Remove(usize),
-}
-
-/// The result of an act.
-#[derive(Clone, Copy)]
-pub(crate) enum Reply {
-    Done,
-    /// This node is gone.
-    Stale(usize),
-    Cycle,
-    /// This node has no parent.
-    NoParent(usize),
-}
-
-/// An act, with what must come of it.
-#[derive(Clone, Copy)]
-pub(crate) struct Line {
-    pub(crate) act: Act,
-    pub(crate) reply: Reply,
-    /// The nodes that are removed, in order.
-    pub(crate) gone: &'static [usize],
-    /// Each node's value and parent afterwards, in the order in which they were made.
-    pub(crate) shows: &'static [Option<(u64, Option<usize>)>],
-    /// The children of the first node that is live, in order, then those of the next, and so on.
-    pub(crate) below: &'static [usize],
-}
 
 /// Where a node is made: each at a line of its own, by its number.
 pub(crate) fn made_at(number: usize) -> Location {
@@ -81,155 +43,9 @@ pub(crate) fn tree_over<T, S: Storage<T>>(
     SceneTree::new(alloc, store)
 }
 
-/// Does each line's act to a tree, and sees what comes of it.
-pub(crate) fn play<S: Storage<u64>>(
-    rt: &impl Abort,
-    alloc: Global,
-    tree: &mut SceneTree<u64, S>,
-    lines: &[Line],
-) {
-    let mut nodes = Vec::new(alloc);
-    for line in lines {
-        let told = answer(rt, tree, &mut nodes, line.act, line.gone);
-        reply_is(rt, told, line.reply);
-        shows(rt, tree, &nodes, line.shows);
-        stand_below(rt, tree, &nodes, line.below);
-        are_walked(rt, tree, &nodes);
-    }
-}
-
-/// Sees that a walk over all nodes gives those that are live, each once, and one over the roots those
-/// of them that have no parent.
-fn are_walked<S: Storage<u64>>(rt: &impl Abort, tree: &SceneTree<u64, S>, nodes: &[Node<u64>]) {
-    for node in nodes {
-        let mut met: usize = 0;
-        for other in tree.nodes() {
-            met = met.wrapping_add(usize::from(other == *node));
-        }
-        assert_same(rt, &met, &usize::from(tree.is_alive(*node)));
-        met = 0;
-        for root in tree.roots() {
-            met = met.wrapping_add(usize::from(root == *node));
-        }
-        let is_root = tree.parent(*node) == Ok(None);
-        assert_same(rt, &met, &usize::from(is_root));
-    }
-    let mut count: usize = 0;
-    for _ in tree.nodes() {
-        count = count.wrapping_add(1);
-    }
-    assert_same(rt, &count, &tree.len());
-}
-
-/// Does an act, and returns its result.
-fn answer<S: Storage<u64>>(
-    rt: &impl Abort,
-    tree: &mut SceneTree<u64, S>,
-    nodes: &mut Vec<Node<u64>>,
-    act: Act,
-    gone: &[usize],
-) -> Result<(), TreeError> {
-    match act {
-        Act::Root(value) => {
-            let made = tree.add_root(value, made_at(nodes.len()));
-            given(rt, nodes.push(given(rt, made)));
-            Ok(())
-        }
-        Act::Child(parent, value) => {
-            let parent = node_at(rt, nodes, parent);
-            let child = add_child(rt, tree, parent, value, nodes.len())?;
-            given(rt, nodes.push(child));
-            Ok(())
-        }
-        Act::ChildAt(side, by, value) => {
-            let spot = spot_at(side, node_at(rt, nodes, by));
-            let child = add_at(rt, tree, spot, value, nodes.len())?;
-            given(rt, nodes.push(child));
-            Ok(())
-        }
-        Act::Set(node, value) => set(rt, tree, node_at(rt, nodes, node), value),
-        Act::Update(node, more) => {
-            tree.update(node_at(rt, nodes, node), |value: &mut u64| {
-                *value = value.wrapping_add(more);
-            })?;
-            Ok(())
-        }
-        Act::Move(node, parent) => {
-            tree.move_to(node_at(rt, nodes, node), node_at(rt, nodes, parent))
-        }
-        Act::MoveAt(node, side, by) => {
-            let spot = spot_at(side, node_at(rt, nodes, by));
-            tree.move_at(node_at(rt, nodes, node), spot)
-        }
-        Act::Detach(node) => {
-            tree.detach(node_at(rt, nodes, node))?;
-            Ok(())
-        }
-        Act::Remove(node) => {
-            let list = tree.remove_subtree(node_at(rt, nodes, node))?;
-            are_nodes(rt, nodes, list.as_slice(), gone);
-            Ok(())
-        }
-    }
-}
-
-/// A spot by a node.
-fn spot_at(side: Side, node: Node<u64>) -> Spot<u64> {
-    match side {
-        Side::FirstOf => Spot::FirstOf(node),
-        Side::LastOf => Spot::LastOf(node),
-        Side::Before => Spot::Before(node),
-        Side::After => Spot::After(node),
-    }
-}
-
-/// Makes a child at a spot. Its value comes back if that fails.
-fn add_at<S: Storage<u64>>(
-    rt: &impl Abort,
-    tree: &mut SceneTree<u64, S>,
-    spot: Spot<u64>,
-    value: u64,
-    number: usize,
-) -> Result<Node<u64>, TreeError> {
-    answered(rt, tree.add_at(spot, value, made_at(number)), &value)
-}
-
-/// Makes a child. Its value comes back if that fails.
-fn add_child<S: Storage<u64>>(
-    rt: &impl Abort,
-    tree: &mut SceneTree<u64, S>,
-    parent: Node<u64>,
-    value: u64,
-    number: usize,
-) -> Result<Node<u64>, TreeError> {
-    answered(rt, tree.add_child(parent, value, made_at(number)), &value)
-}
-
-/// Sets a value. It comes back if that fails.
-fn set<S: Storage<u64>>(
-    rt: &impl Abort,
-    tree: &mut SceneTree<u64, S>,
-    node: Node<u64>,
-    value: u64,
-) -> Result<(), TreeError> {
-    let answer = answered(rt, tree.set(node, value), &value);
-    answer.map_err(TreeError::from)
-}
-
 /// A node by its number.
 pub(crate) fn node_at(rt: &impl Abort, nodes: &[Node<u64>], number: usize) -> Node<u64> {
     nodes.get(number).copied().expect(rt, "a node")
-}
-
-/// Asserts the result of an act. For a stale node the error says where it was made.
-fn reply_is(rt: &impl Abort, answer: Result<(), TreeError>, reply: Reply) {
-    let wanted = match reply {
-        Reply::Done => Ok(()),
-        Reply::Stale(number) => Err(TreeError::Stale(stale_of(number))),
-        Reply::Cycle => Err(TreeError::Cycle),
-        Reply::NoParent(number) => Err(TreeError::NoParent(Some(made_at(number)))),
-    };
-    assert_same(rt, &answer, &wanted);
 }
 
 /// Asserts which nodes are in a list.
@@ -245,71 +61,217 @@ pub(crate) fn are_nodes(
     }
 }
 
-/// Sees each node's value and parent.
-fn shows<S: Storage<u64>>(
-    rt: &impl Abort,
-    tree: &mut SceneTree<u64, S>,
-    nodes: &[Node<u64>],
-    shows: &[Option<(u64, Option<usize>)>],
-) {
-    assert_same(rt, &nodes.len(), &shows.len());
-    let mut number: usize = 0;
-    let mut live: usize = 0;
-    for (node, shown) in nodes.iter().zip(shows) {
-        match *shown {
-            Some((value, parent)) => {
-                is_shown(rt, tree, nodes, *node, value, parent);
-                live = live.wrapping_add(1);
+/// A tree, and the nodes that were made.
+#[derive(Drop)]
+pub(crate) struct Grove<S: Storage<u64>> {
+    alloc: Global,
+    tree: SceneTree<u64, S>,
+    nodes: Made<u64, NodeKind>,
+}
+
+impl<S: Storage<u64>> Grove<S> {
+    /// A tree over a new store.
+    pub(crate) fn new(rt: &impl Abort, alloc: Global, store: S) -> Grove<S> {
+        Grove {
+            alloc,
+            tree: tree_over(rt, alloc, store),
+            nodes: Made::new(alloc),
+        }
+    }
+
+    // The spot that a command names.
+    fn spot(&self, rt: &impl Abort, words: &mut Words<'_>) -> Spot<u64> {
+        let side = words.word();
+        let node = self.nodes.named(rt, words);
+        match side {
+            "first_of" => Spot::FirstOf(node),
+            "last_of" => Spot::LastOf(node),
+            "before" => Spot::Before(node),
+            "after" => Spot::After(node),
+            _ => panic!(rt; "no such spot"),
+        }
+    }
+
+    // Keeps a new node.
+    fn keep(
+        &mut self,
+        rt: &impl Abort,
+        made: Result<Node<u64>, TreeError>,
+    ) -> Result<(), TreeError> {
+        let node = made?;
+        self.nodes.add(rt, node);
+        Ok(())
+    }
+
+    fn add_root(&mut self, rt: &impl Abort, words: &mut Words<'_>) -> Result<(), TreeError> {
+        let root = self
+            .tree
+            .add_root(words.number(rt), made_at(self.nodes.next()));
+        self.nodes.add(rt, given(rt, root));
+        Ok(())
+    }
+
+    // Makes a child. Its value comes back if that fails.
+    fn add_child(&mut self, rt: &impl Abort, words: &mut Words<'_>) -> Result<(), TreeError> {
+        let parent = self.nodes.named(rt, words);
+        let value = words.number(rt);
+        let answer = self
+            .tree
+            .add_child(parent, value, made_at(self.nodes.next()));
+        let made = answered(rt, answer, &value);
+        self.keep(rt, made)
+    }
+
+    // Makes a child at a spot. Its value comes back if that fails.
+    fn add_at(&mut self, rt: &impl Abort, words: &mut Words<'_>) -> Result<(), TreeError> {
+        let spot = self.spot(rt, words);
+        let value = words.number(rt);
+        let answer = self.tree.add_at(spot, value, made_at(self.nodes.next()));
+        let made = answered(rt, answer, &value);
+        self.keep(rt, made)
+    }
+
+    // Sets a value. It comes back if that fails.
+    fn set(&mut self, rt: &impl Abort, words: &mut Words<'_>) -> Result<(), TreeError> {
+        let node = self.nodes.named(rt, words);
+        let value = words.number(rt);
+        let answer = answered(rt, self.tree.set(node, value), &value);
+        answer.map_err(TreeError::from)
+    }
+
+    fn update(&mut self, rt: &impl Abort, words: &mut Words<'_>) -> Result<(), TreeError> {
+        let node = self.nodes.named(rt, words);
+        let more = words.number(rt);
+        self.tree.update(node, |value: &mut u64| {
+            *value = value.wrapping_add(more);
+        })?;
+        Ok(())
+    }
+
+    fn move_to(&mut self, rt: &impl Abort, words: &mut Words<'_>) -> Result<(), TreeError> {
+        let node = self.nodes.named(rt, words);
+        let parent = self.nodes.named(rt, words);
+        self.tree.move_to(node, parent)
+    }
+
+    fn move_at(&mut self, rt: &impl Abort, words: &mut Words<'_>) -> Result<(), TreeError> {
+        let node = self.nodes.named(rt, words);
+        let spot = self.spot(rt, words);
+        self.tree.move_at(node, spot)
+    }
+
+    fn detach(&mut self, rt: &impl Abort, words: &mut Words<'_>) -> Result<(), TreeError> {
+        let node = self.nodes.named(rt, words);
+        self.tree.detach(node)?;
+        Ok(())
+    }
+
+    // Carries out a command that replies `ok`.
+    fn answer(
+        &mut self,
+        rt: &impl Abort,
+        word: &str,
+        words: &mut Words<'_>,
+    ) -> Result<(), TreeError> {
+        match word {
+            "add_root" => self.add_root(rt, words),
+            "add_child" => self.add_child(rt, words),
+            "add_at" => self.add_at(rt, words),
+            "set" => self.set(rt, words),
+            "update" => self.update(rt, words),
+            "move_to" => self.move_to(rt, words),
+            "move_at" => self.move_at(rt, words),
+            "detach" => self.detach(rt, words),
+            _ => panic!(rt; "no such command"),
+        }
+    }
+
+    // Removes a node with all below it, and writes which nodes were removed.
+    fn remove(&mut self, rt: &impl Abort, words: &mut Words<'_>, text: &mut String) {
+        let node = self.nodes.named(rt, words);
+        match self.tree.remove_subtree(node) {
+            Ok(list) => {
+                write_text(rt, text, &"removed");
+                for node in list.as_slice() {
+                    let number = self.nodes.number_of(rt, *node);
+                    given(rt, write!(text, " {number}"));
+                }
             }
-            None => is_gone(rt, tree, *node, number),
+            Err(error) => write_text(rt, text, &error),
         }
-        number = number.wrapping_add(1);
-    }
-    assert_same(rt, &tree.len(), &live);
-}
-
-/// Sees a live node's value and parent.
-fn is_shown<S: Storage<u64>>(
-    rt: &impl Abort,
-    tree: &mut SceneTree<u64, S>,
-    nodes: &[Node<u64>],
-    node: Node<u64>,
-    value: u64,
-    parent: Option<usize>,
-) {
-    assert!(rt; tree.is_alive(node));
-    assert_same(rt, &tree.get(node).copied(), &Ok(value));
-    let above = tree.parent(node).expect(rt, "a live node");
-    match (above, parent) {
-        (Some(above), Some(number)) => {
-            assert_same(rt, &above.id(), &node_at(rt, nodes, number).id());
-        }
-        (above, parent) => assert_same(rt, &above.is_some(), &parent.is_some()),
     }
 }
 
-/// Sees the children of the live nodes.
-fn stand_below<S: Storage<u64>>(
+impl<S: Storage<u64>> Subject for Grove<S> {
+    fn carry_out<R: Abort>(&mut self, rt: &R, words: &mut Words<'_>, text: &mut String) {
+        match words.word() {
+            "remove_subtree" => self.remove(rt, words, text),
+            word => {
+                let answer = self.answer(rt, word, words);
+                write_reply(rt, text, answer);
+            }
+        }
+    }
+
+    fn show<R: Abort>(&mut self, rt: &R, text: &mut String) {
+        for number in 0..self.nodes.next() {
+            let node = self.nodes.at(rt, number);
+            if self.tree.is_alive(node) {
+                write_node(rt, self.alloc, &self.tree, &self.nodes, number, text);
+            } else {
+                is_gone(rt, &mut self.tree, node, number);
+            }
+        }
+        are_walked(rt, &self.tree, self.nodes.all());
+    }
+}
+
+/// Writes a live node's value, parent and children.
+fn write_node<S: Storage<u64>>(
     rt: &impl Abort,
+    alloc: Global,
     tree: &SceneTree<u64, S>,
-    nodes: &[Node<u64>],
-    below: &[usize],
+    nodes: &Made<u64, NodeKind>,
+    number: usize,
+    text: &mut String,
 ) {
-    let mut rest = below;
-    for node in nodes {
-        let Ok(children) = tree.children(*node) else {
-            continue;
-        };
-        for child in children {
-            let Some((number, others)) = rest.split_first() else {
-                assert!(rt; false);
-                return;
-            };
-            assert_same(rt, &child.id(), &node_at(rt, nodes, *number).id());
-            rest = others;
-        }
+    let node = nodes.at(rt, number);
+    let value = given(rt, tree.get(node).copied());
+    given(rt, write!(text, " {number}={value}"));
+    if let Some(parent) = given(rt, tree.parent(node)) {
+        given(rt, write!(text, "<{}", nodes.number_of(rt, parent)));
     }
-    assert!(rt; rest.is_empty());
+    let mut children = Vec::new(alloc);
+    for child in given(rt, tree.children(node)) {
+        given(rt, children.push(nodes.number_of(rt, child)));
+    }
+    write_numbers(rt, text, children.as_slice());
+}
+
+/// Sees that a walk over all nodes gives those that are live, each once, and one over the roots those
+/// of them that have no parent.
+fn are_walked<S: Storage<u64>>(rt: &impl Abort, tree: &SceneTree<u64, S>, nodes: &[Node<u64>]) {
+    let mut live: usize = 0;
+    for node in nodes {
+        let mut met: usize = 0;
+        for other in tree.nodes() {
+            met = met.wrapping_add(usize::from(other == *node));
+        }
+        assert_same(rt, &met, &usize::from(tree.is_alive(*node)));
+        live = live.wrapping_add(met);
+        met = 0;
+        for root in tree.roots() {
+            met = met.wrapping_add(usize::from(root == *node));
+        }
+        let is_root = tree.parent(*node) == Ok(None);
+        assert_same(rt, &met, &usize::from(is_root));
+    }
+    let mut count: usize = 0;
+    for _ in tree.nodes() {
+        count = count.wrapping_add(1);
+    }
+    assert_same(rt, &count, &live);
+    assert_same(rt, &tree.len(), &live);
 }
 
 /// Asserts that a node is gone: the error of each call on it says where it was made.

@@ -121,6 +121,63 @@ impl Scene<u64> for ReadInOrder {
     }
 }
 
+/// Sees which node was found, by its number.
+fn is_found(
+    rt: &impl Abort,
+    nodes: &[Node<u64>],
+    found: Result<Option<Node<u64>>, Stale>,
+    number: Option<usize>,
+) {
+    let found = found.expect(rt, "a live node");
+    match (found, number) {
+        (Some(node), Some(number)) => assert_same(rt, &node.id(), &node_at(rt, nodes, number).id()),
+        (None, None) => {}
+        _ => assert!(rt; false),
+    }
+}
+
+/// Sees a node's first and last child, and the siblings right before and right behind it.
+fn is_beside<S: Storage<u64>>(
+    rt: &impl Abort,
+    tree: &SceneTree<u64, S>,
+    nodes: &[Node<u64>],
+    number: usize,
+    wanted: (Option<usize>, Option<usize>, Option<usize>, Option<usize>),
+) {
+    let node = node_at(rt, nodes, number);
+    let (first, last, previous, next) = wanted;
+    is_found(rt, nodes, tree.first_child(node), first);
+    is_found(rt, nodes, tree.last_child(node), last);
+    is_found(rt, nodes, tree.previous_sibling(node), previous);
+    is_found(rt, nodes, tree.next_sibling(node), next);
+}
+
+/// A root with three children, of which one is moved, one is removed, and one is made a root.
+struct BesideEachOther;
+
+impl Scene<u64> for BesideEachOther {
+    fn play<R: Abort, S: Storage<u64> + Drop>(&self, rt: &R, alloc: Global, store: S) {
+        let mut tree = tree_over(rt, alloc, store);
+        let root = root_or_again(rt, &mut tree);
+        let first = child_or_again(rt, &mut tree, root, 1);
+        let second = child_or_again(rt, &mut tree, root, 2);
+        let third = child_or_again(rt, &mut tree, root, 3);
+        let nodes = [root, first, second, third];
+        is_beside(rt, &tree, &nodes, 0, (Some(1), Some(3), None, None));
+        is_beside(rt, &tree, &nodes, 1, (None, None, None, Some(2)));
+        is_beside(rt, &tree, &nodes, 2, (None, None, Some(1), Some(3)));
+        is_beside(rt, &tree, &nodes, 3, (None, None, Some(2), None));
+        given(rt, tree.move_at(first, Spot::After(third)));
+        is_beside(rt, &tree, &nodes, 0, (Some(2), Some(1), None, None));
+        is_beside(rt, &tree, &nodes, 3, (None, None, Some(2), Some(1)));
+        given(rt, tree.remove_subtree(third));
+        is_beside(rt, &tree, &nodes, 2, (None, None, None, Some(1)));
+        given(rt, tree.detach(first));
+        is_beside(rt, &tree, &nodes, 1, (None, None, None, None));
+        is_beside(rt, &tree, &nodes, 0, (Some(2), Some(2), None, None));
+    }
+}
+
 /// Sees what an error prints.
 fn prints(rt: &impl Abort, alloc: Global, error: TreeError, text: &str) {
     let printed = format!(in alloc; "{error}").expect(rt, "memory");
@@ -187,6 +244,10 @@ fn is_unknown<S: Storage<u64>>(
     assert_same(rt, &tree.ancestors(node).err(), &Some(stale));
     assert_same(rt, &tree.outline(node, 9).err(), &Some(stale));
     assert_same(rt, &tree.depth(node), &Err(stale));
+    assert_same(rt, &tree.first_child(node).err(), &Some(stale));
+    assert_same(rt, &tree.last_child(node).err(), &Some(stale));
+    assert_same(rt, &tree.next_sibling(node).err(), &Some(stale));
+    assert_same(rt, &tree.previous_sibling(node).err(), &Some(stale));
     let error = TreeError::Stale(stale);
     assert_same(rt, &tree.subtree(node).err(), &Some(error));
 }
@@ -251,5 +312,6 @@ fn gone_and_foreign_nodes_are_refused_by_each_call(rt: HostRuntime) {
 fn ways_up_outlines_and_keys(rt: HostRuntime) {
     play::<u64, WaysUp>(&rt, rt.alloc(), &WaysUp);
     play::<u64, ReadInOrder>(&rt, rt.alloc(), &ReadInOrder);
+    play::<u64, BesideEachOther>(&rt, rt.alloc(), &BesideEachOther);
     play::<u64, Keys>(&rt, rt.alloc(), &Keys);
 }

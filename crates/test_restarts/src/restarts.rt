@@ -1,6 +1,6 @@
 //! Shared stores that are saved and go on, with ample memory, and images from which none does.
 
-ghost use Rattle.generational_sync.specs.Shared.{IsBlank};
+ghost use Rattle.shared_state.specs.Shared.{IsBlank};
 
 use crate::going_on::{go_on, save_again};
 use crate::saving::{Saved, save};

@@ -1,7 +1,7 @@
 //! Replies in pairs: each is the same as itself, and no two that differ in one part are the same.
 
 use crate::expected::{assert_same, made_in, push};
-use boxes_parts::is_same;
+use boxes_script::is_same;
 use generational_box::{
     AlreadyBorrowedError, AlreadyBorrowedMutError, BorrowMutError, Location, Reply, Storage, Store,
     StoreError, UnsyncStorage, ValueDroppedError,

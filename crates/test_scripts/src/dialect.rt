@@ -16,7 +16,7 @@
 ghost use Rattle.generational_core.specs.Conditions.{IsFresh};
 
 use crate::naming::Strangers;
-use boxes_script::{Fault, Script, write_reply};
+use boxes_script::{Script, ScriptFault, write_reply};
 use generational_box::{Call, Location, Reply, Storage};
 use std::alloc::Global;
 use std::io;
@@ -47,7 +47,7 @@ impl<S: Storage<String> + Drop> Dialect<S> {
         number: u32,
         line: &str,
         output: &mut W,
-    ) -> Result<(), Fault> {
+    ) -> Result<(), ScriptFault> {
         let location = Location::new("script", number, 1);
         let (word, rest) = line.split_once(' ').unwrap_or((line, ""));
         match word {
@@ -75,7 +75,7 @@ impl<S: Storage<String> + Drop> Dialect<S> {
         rest: &str,
         location: Location,
         output: &mut W,
-    ) -> Result<(), Fault> {
+    ) -> Result<(), ScriptFault> {
         match word {
             "counts" => written(self.counts(output)),
             "view" => written(self.view(rest, output)),
@@ -84,7 +84,7 @@ impl<S: Storage<String> + Drop> Dialect<S> {
     }
 
     // Makes a call, and writes its reply.
-    fn call<W: Write>(&mut self, call: Call<String>, output: &mut W) -> Result<(), Fault> {
+    fn call<W: Write>(&mut self, call: Call<String>, output: &mut W) -> Result<(), ScriptFault> {
         let reply = self.script.call_next(call)?;
         written(write_with_value(output, reply))
     }
@@ -123,8 +123,8 @@ impl<S: Storage<String> + Drop> Dialect<S> {
 }
 
 /// The result of a write.
-fn written(answer: io::Result<()>) -> Result<(), Fault> {
-    answer.map_err(|_| Fault::Output)
+fn written(answer: io::Result<()>) -> Result<(), ScriptFault> {
+    answer.map_err(|_| ScriptFault::Output)
 }
 
 /// Writes a reply, with the value that came back.

@@ -4,8 +4,7 @@ ghost use Rattle.std.specs.Prelude.{◌≤◌};
 
 use crate::expected::{assert_same, given, made_in};
 use crate::runs::{assert_ended, run_words, texts};
-use boxes_parts::{Verdict, compare};
-use boxes_script::compare_stores;
+use boxes_script::{Verdict, compare, compare_stores};
 use generational_box::{
     BoxAt, Call, GenerationalBox, Location, Numbers, OldestFirst, Reply, Storage, Store,
     StoreError, UnsyncStorage,

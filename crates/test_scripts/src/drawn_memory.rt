@@ -2,8 +2,7 @@
 //! and all replies before the first call that fails are the same, with their ids.
 
 use crate::expected::given;
-use boxes_parts::{is_lacking, is_same};
-use boxes_script::fuzz_list;
+use boxes_script::{fuzz_list, is_lacking, is_same};
 use generational_box::{Call, LastFirst, OldestFirst, Reply, Session, SlotPool, Storage, Store};
 use std::alloc::Global;
 use std::process::Abort;

@@ -1,6 +1,6 @@
 //! Calls in the dialect of the tests, by places and by the boxes of other stores.
 
-use boxes_script::Fault;
+use boxes_script::ScriptFault;
 use generational_box::{BoxAt, Call, GenerationalBox, Location, Storage};
 use std::alloc::{AllocError, Global};
 use std::io::Write;
@@ -32,12 +32,12 @@ impl<S: Storage<String>> Strangers<S> {
         value: &str,
         location: Location,
         output: &mut W,
-    ) -> Result<(), Fault> {
+    ) -> Result<(), ScriptFault> {
         let made = match self.leak(word, value, location) {
             Ok(made) => made,
-            Err(_) => return Err(Fault::Memory),
+            Err(_) => return Err(ScriptFault::Memory),
         };
-        writeln!(output, "box {made:?}").map_err(|_| Fault::Output)
+        writeln!(output, "box {made:?}").map_err(|_| ScriptFault::Output)
     }
 
     // Makes a box in the store that the word names.
@@ -64,7 +64,7 @@ impl<S: Storage<String>> Strangers<S> {
         word: &str,
         rest: &str,
         location: Location,
-    ) -> Result<Call<String>, Fault> {
+    ) -> Result<Call<String>, ScriptFault> {
         let (name, value) = rest.split_once(' ').unwrap_or((rest, ""));
         match word {
             "leak" | "leak_rc" => self.of_value(word, name, rest, location),
@@ -82,9 +82,9 @@ impl<S: Storage<String>> Strangers<S> {
         name: &str,
         value: &str,
         location: Location,
-    ) -> Result<Call<String>, Fault> {
+    ) -> Result<Call<String>, ScriptFault> {
         let Ok(value) = String::from_str(self.alloc, value) else {
-            return Err(Fault::Memory);
+            return Err(ScriptFault::Memory);
         };
         let place = place(name);
         Ok(match word {

@@ -1,7 +1,7 @@
 //! Memory runs out at the last numbers, beside another store, and for values of other types. Each test
 //! passes whichever allocation fails, and what may fail to allocate is tried a second time.
 
-use crate::again::{assert_borrowed, insert_or_again, leak_or_again, owner_or_again};
+use crate::again_memory::{assert_borrowed, insert_or_again, leak_or_again, owner_or_again};
 use crate::expected::{
     assert_kept, assert_opens, assert_released, assert_same, assert_unknown, assert_unread, begin,
     begin_write, counts_of, dropped, end, given, made, made_later, read, written,

@@ -1,7 +1,7 @@
 //! Shared values where memory runs out. Each test passes whichever allocation fails, and what may fail to
 //! allocate is tried a second time.
 
-use crate::again::{assert_held, begin_or_again, owner_or_again};
+use crate::again_memory::{assert_held, begin_or_again, owner_or_again};
 use crate::expected::{
     assert_opens, assert_reads, assert_released, assert_same, assert_unread, begin, counts_of,
     dropped, end, given, leak, made, made_later, release,

@@ -1,7 +1,7 @@
 //! Memory runs out. Each test passes whichever allocation fails: `rt try --test --fail-alloc N` makes the
 //! Nth of each test fail. What may fail to allocate is tried a second time.
 
-use crate::again::{
+use crate::again_memory::{
     assert_borrowed, begin_or_again, insert_or_again, leak_or_again, owner_or_again, readers,
 };
 use crate::expected::{
