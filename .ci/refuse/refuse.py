@@ -100,12 +100,12 @@ FRUGAL_TESTS = {
     "growth::an_owners_list": (3_200, 52_000_000),
     "growth::places": (3_200, 22_000_000),
     "growth::a_scopes_signals": (200, 48_000_000),
-    "growth::entities": (370, 39_000_000),
-    # Each session has a list of its own, and its owner one.
-    "growth::logins": (1_500_000, 360_000_000),
-    "growth::entries": (210, 53_000_000),
-    "growth::children": (210, 27_000_000),
-    "growth::parts": (280, 75_000_000),
+    "growth::entities": (220, 15_500_000),
+    # Each session has a list of its own.
+    "growth::logins": (1_200_000, 250_000_000),
+    "growth::entries": (410, 70_000_000),
+    "growth::children": (220, 18_700_000),
+    "growth::parts": (270, 22_500_000),
     "box_memory::makings_in_reserved_room": (60, 50_000),
     "beside::a_crowd_of_workers": (4_200, 9_300_000),
     "unshared::calls_without_threads": (33, 8_000),
