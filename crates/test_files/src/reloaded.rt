@@ -21,7 +21,7 @@ pub(crate) type SavedId = (u64, u64);
 pub(crate) const NUMBER: u64 = 8;
 
 // How many files of a kind are drawn.
-const ROUNDS: u32 = 400;
+const ROUNDS: u32 = 100_000;
 
 /// A kind of files.
 pub(crate) trait Kind {
