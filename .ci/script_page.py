@@ -2,9 +2,9 @@
 
 The gate's lines are those of .ci/refuse/rows and of test_scripts, each with its reply. Each of them must be
 a command of the page with one of its replies, each command of the page one of them with each of its replies,
-and what the gate knows to be a bad line no command. The longer script is a whole row. Statuses are those of
-the program's faults and verdicts. A block that pipes lines into `rt try` gives what is stored as the crate's
-stdin, and prints what is stored as its stdout. (`.ci/page.py` calls this.)
+and what the gate knows to be a bad line no command. Statuses are those of the program's faults and verdicts.
+A block that pipes lines into `rt try` gives what is stored as the crate's stdin, and prints what is stored as
+its stdout. (`.ci/page.py` calls this.)
 """
 import pathlib
 import re
@@ -15,7 +15,6 @@ sys.path.insert(0, str(ROOT / ".ci/refuse"))
 from refuse import REFUSED, rows, whole  # noqa: E402
 
 PAGE = ROOT / "docs/script.md"
-LONGER = ROOT / ".ci/refuse/rows/every_command.row"
 PROGRAM = ROOT / "crates/boxes_script/src"
 SCRIPTS = ROOT / "crates/test_scripts/src/scripts.rt"
 # What the words in capitals on the page stand for.
@@ -94,12 +93,6 @@ def compare_commands(page):
     wanted(not left, f"the gate never has {left}")
 
 
-def compare_longer(page):
-    lines = [it[4:] for it in section(page, "A longer script").splitlines() if it.startswith("    ")]
-    row = [it[2:] for it in LONGER.read_text(encoding="utf-8").splitlines()]
-    wanted(lines == row, "the longer script is none that the gate runs")
-
-
 def faults():
     """The program's faults, each its text with its status, by its name."""
     text = (PROGRAM / "fault.rt").read_text(encoding="utf-8")
@@ -135,18 +128,14 @@ def run_faults(page):
     return faults
 
 
-def compare_runs(page):
-    wanted(RUN.search(page) and not run_faults(page), "the block that runs the program isn't the stored run")
-
-
 def compare(page):
-    for part in (compare_commands, compare_longer, compare_ends, compare_runs):
+    for part in (compare_commands, compare_ends):
         part(page)
 
 
 def wrong_pages(page):
     """Pages that are wrong in one thing each: a command that isn't there, one that is missing, a reply that
-    is missing, one too many, a longer script, a status, a verdict, a line that is given, and a print."""
+    is missing, one too many, a status, and a verdict."""
     for old, new in [
         ("| `leak VALUE` |", "| `leap VALUE` |"),
         ("| `stats` |", "| `stat` |"),
@@ -155,11 +144,8 @@ def wrong_pages(page):
         ("| `reader` |", "| `reader` or `writer` |"),
         ("| `no such` |", "| `none such` |"),
         ("immutably.borrowed_at: LOCATION ..`", "immutably.borrowed_at: LOCATION`"),
-        ("    leek                 | bad line\n", ""),
         ("| 3 | an", "| 1 | an"),
         ("alike, ids and numbers of slots aside | 0 |", "alike | 1 |"),
-        (r"leak hello world\n", r"leak hello\n"),
-        ("    value hello world\n", "    value hello\n"),
     ]:
         wanted(old in page, f"the page hasn't {old!r}")
         yield page.replace(old, new, 1)
