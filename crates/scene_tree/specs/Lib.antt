@@ -3,6 +3,7 @@ pub mod Chains
 pub mod Families
 pub mod Keeping
 pub mod Meeting
+pub mod Moves
 pub mod Nodes
 pub mod Packing
 pub mod Parts

@@ -20,7 +20,9 @@ ghost use Rattle.scene_tree.specs.Nodes.{Node, number_in, times, without};
 ghost use Rattle.scene_tree.specs.Trees.{TreeState, value_of, is_live, family_of, parent_of};
 ghost use Rattle.scene_tree.specs.Trees.{children_of, created_at, stale_of, WasMade, IsBelow, NodeIsUnchanged, CanMove};
 ghost use Rattle.scene_tree.specs.Trees.{AreAncestors, IsRootedIn, IsSubtree, IsTree, KeepsNodeLocations, live_count, outline_of, parent_for};
+ghost use Rattle.scene_tree.specs.Moves.{FailsAsMove};
 ghost use Rattle.scene_tree.specs.Spots.{named, placed};
+ghost use Rattle.scene_tree.specs.declared.spot.Spot.TheVariants as spots;
 
 use crate::links::{
     attach, children_at, cut, depth_at, detach, gather, is_under, open_slot, parent_at,
@@ -605,14 +607,7 @@ impl<T, S: Storage<T>> SceneTree<T, S> {
         ensures others { (n : Node T) → IsOther parent n →
             ((up : Node T) → parent_of self.old node ≡ Some up → IsOther up n) →
             children_of self.new n ≡ children_of self.old n }
-        ensures gone { value_of self.old node ≡ None → result ≡ Err (error.Stale (stale_of self.old node)) }
-        ensures stale { is_live self.old node ≡ true → value_of self.old parent ≡ None →
-            result ≡ Err (error.Stale (stale_of self.old parent)) }
-        ensures cycle { is_live self.old node ≡ true → IsBelow self.old node parent →
-            result ≡ Err error.Cycle }
-        ensures why { OnErr result ((value_of self.old node ≡ None)
-            ⊎ (value_of self.old parent ≡ None)
-            ⊎ IsBelow self.old node parent) }
+        ensures fails { FailsAsMove self.old node (spots.LastOf parent) result }
         ensures refused { OnErr result (self.new ≡ self.old) }
     {
         self.move_at(node, Spot::LastOf(parent))
@@ -650,17 +645,7 @@ impl<T, S: Storage<T>> SceneTree<T, S> {
             ((to : Node T) → parent_for self.old spot ≡ Some to → IsOther to n) →
             ((up : Node T) → parent_of self.old node ≡ Some up → IsOther up n) →
             children_of self.new n ≡ children_of self.old n }
-        ensures gone { value_of self.old node ≡ None → result ≡ Err (error.Stale (stale_of self.old node)) }
-        ensures stale { is_live self.old node ≡ true → value_of self.old (named spot) ≡ None →
-            result ≡ Err (error.Stale (stale_of self.old (named spot))) }
-        ensures cycle { is_live self.old node ≡ true → IsBelow self.old node (named spot) →
-            result ≡ Err error.Cycle }
-        ensures root { CanMove self.old node (named spot) → parent_for self.old spot ≡ None →
-            result ≡ Err (error.NoParent (created_at self.old (named spot))) }
-        ensures why { OnErr result ((value_of self.old node ≡ None)
-            ⊎ (value_of self.old (named spot) ≡ None)
-            ⊎ IsBelow self.old node (named spot)
-            ⊎ (parent_for self.old spot ≡ None)) }
+        ensures fails { FailsAsMove self.old node spot result }
         ensures refused { OnErr result (self.new ≡ self.old) }
     {
         let parent = self.parent_moved(node, spot)?;
@@ -707,17 +692,7 @@ impl<T, S: Storage<T>> SceneTree<T, S> {
         ensures parent { IfOk result (λ up. parent_for self.now spot ≡ Some up) }
         ensures may { IfOk result (λ up. CanMove self.now node up) }
         ensures apart { OnOk result (IsBelow self.now node (named spot) → ⊥) }
-        ensures gone { value_of self.now node ≡ None → result ≡ Err (error.Stale (stale_of self.now node)) }
-        ensures stale { is_live self.now node ≡ true → value_of self.now (named spot) ≡ None →
-            result ≡ Err (error.Stale (stale_of self.now (named spot))) }
-        ensures cycle { is_live self.now node ≡ true → IsBelow self.now node (named spot) →
-            result ≡ Err error.Cycle }
-        ensures root { CanMove self.now node (named spot) → parent_for self.now spot ≡ None →
-            result ≡ Err (error.NoParent (created_at self.now (named spot))) }
-        ensures why { OnErr result ((value_of self.now node ≡ None)
-            ⊎ (value_of self.now (named spot) ≡ None)
-            ⊎ IsBelow self.now node (named spot)
-            ⊎ (parent_for self.now spot ≡ None)) }
+        ensures fails { FailsAsMove self.now node spot result }
     {
         self.test_move(node, spot.node())?;
         self.parent_for(spot)
@@ -726,14 +701,7 @@ impl<T, S: Storage<T>> SceneTree<T, S> {
     // Whether a node may become a child of another, or why not.
     fn test_move(&self, node: Node<T>, parent: Node<T>) -> Result<(), TreeError>
         ensures may { OnOk result (CanMove self.now node parent) }
-        ensures gone { value_of self.now node ≡ None → result ≡ Err (error.Stale (stale_of self.now node)) }
-        ensures stale { is_live self.now node ≡ true → value_of self.now parent ≡ None →
-            result ≡ Err (error.Stale (stale_of self.now parent)) }
-        ensures cycle { is_live self.now node ≡ true → IsBelow self.now node parent →
-            result ≡ Err error.Cycle }
-        ensures why { IfErr result (λ e. (value_of self.now node ≡ None)
-            ⊎ (value_of self.now parent ≡ None)
-            ⊎ IsBelow self.now node parent) }
+        ensures fails { FailsAsMove self.now node (spots.LastOf parent) result }
     {
         if !self.is_alive(node) {
             return Err(TreeError::Stale(self.stale(node)));

@@ -8,7 +8,7 @@ none_there (Some x) is = absurd (true≢false is)
 
 pub returns : goal.returns
 returns g c = ⊎_elim
-    (λ live. subst IsErr (sym (c.move_to-2.ensures.cycle live
+    (λ live. subst IsErr (sym (c.move_to-2.ensures.fails.cycle live
     (1, (c.args.other, c.in_ok-move_to.ensures.moved, refl)))) refl)
-    (λ gone. subst IsErr (sym (c.move_to-2.ensures.gone (none_there _ gone))) refl)
+    (λ gone. subst IsErr (sym (c.move_to-2.ensures.fails.gone (none_there _ gone))) refl)
     (cases_Bool _)
