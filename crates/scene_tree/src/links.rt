@@ -301,15 +301,6 @@ pub(crate) fn parent_at<T>(links: &Links<T>, slot: usize) -> Option<Node<T>>
     links.at(slot).parent
 }
 
-/// The children of a slot's node, in order.
-pub(crate) fn children_at<T>(links: &Links<T>, slot: usize) -> Children<'_, T>
-    requires linked { AreChildrenLinked links.now.items }
-    requires within { slot < length links.now.items }
-    ensures { result ≡ children_at (families links.now.items) slot }
-{
-    Children::new(links, links.at(slot).first)
-}
-
 /// The row after that of a slot's node in an outline: its first child, or what follows its whole
 /// subtree.
 pub(crate) fn next_row<T>(links: &Links<T>, depth: usize, slot: usize) -> Option<(usize, Node<T>)>
@@ -384,7 +375,7 @@ fn push_children<T>(
         list.new.items ≡ list.old.items ++ children_at (families links.now.items) (slot_in n)) }
 {
     let node = list[next];
-    for child in children_at(links, slot_of(node)) {
+    for child in Children::new(links, slot_of(node)) {
         list.push(child)?;
     }
     Ok(())

@@ -7,10 +7,10 @@ ghost use Rattle.scene_tree.specs.Families.{AreChildrenLinked, children_at, fami
 ghost use Rattle.scene_tree.specs.Keeping.{AreNodesNoted, IsTreeKept};
 ghost use Rattle.scene_tree.specs.Nodes.{Node};
 
-use crate::links::children_at;
 use crate::nodes::is_met;
 use crate::packed::Links;
 use crate::parts::ChildRow;
+use crate::walk::Children;
 use generational_core::{GenerationalBoxId, Storage};
 use std::alloc::{AllocError, Global};
 
@@ -55,7 +55,7 @@ fn push_rows<T>(
         ++ map (λ (c : Node T). record { child = id_in c; parent = parent })
         (children_at (families links.now.items) parent.slot)) }
 {
-    for node in children_at(links, parent.slot) {
+    for node in Children::new(links, parent.slot) {
         rows.push(ChildRow {
             child: node.id(),
             parent,

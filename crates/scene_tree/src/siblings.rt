@@ -71,7 +71,7 @@ impl<T, S: Storage<T>> SceneTree<T, S> {
         if !self.is_alive(node) {
             return Err(self.stale(node));
         }
-        Ok(next_at(&self.links, node))
+        Ok(node_at(&self.links, sides_of(&self.links, node).1))
     }
 
     /// Returns the sibling right before a node, if there is one: None of a first child, and of a root.
@@ -92,7 +92,7 @@ impl<T, S: Storage<T>> SceneTree<T, S> {
         if !self.is_alive(node) {
             return Err(self.stale(node));
         }
-        Ok(previous_at(&self.links, node))
+        Ok(node_at(&self.links, sides_of(&self.links, node).0))
     }
 }
 
@@ -116,28 +116,20 @@ fn last_at<T>(links: &Links<T>, slot: usize) -> Option<Node<T>>
     node_at(links, links.at(slot).last)
 }
 
-// The node right behind another among the children of its parent.
-fn next_at<T>(links: &Links<T>, node: Node<T>) -> Option<Node<T>>
+// The slots of the siblings before and after a node: none of a root.
+fn sides_of<T>(links: &Links<T>, node: Node<T>) -> (Option<usize>, Option<usize>)
     requires linked { AreChildrenLinked links.now.items }
     requires within { slot_in node < length links.now.items }
     requires among { (up : ℕ) → above (families links.now.items) (slot_in node) ≡ Some up →
         IsAmong (children_at (families links.now.items) up) node }
-    ensures { result ≡ next_in node
+    ensures previous { node_at links.now.items result.0 ≡ previous_in node
+        (siblings_at (families links.now.items) (above (families links.now.items) (slot_in node))) }
+    ensures next { node_at links.now.items result.1 ≡ next_in node
         (siblings_at (families links.now.items) (above (families links.now.items) (slot_in node))) }
 {
-    let _parent = parent_at(links, slot_of(node))?;
-    node_at(links, sides_at(links, slot_of(node)).1)
-}
-
-// The node right before another among the children of its parent.
-fn previous_at<T>(links: &Links<T>, node: Node<T>) -> Option<Node<T>>
-    requires linked { AreChildrenLinked links.now.items }
-    requires within { slot_in node < length links.now.items }
-    requires among { (up : ℕ) → above (families links.now.items) (slot_in node) ≡ Some up →
-        IsAmong (children_at (families links.now.items) up) node }
-    ensures { result ≡ previous_in node
-        (siblings_at (families links.now.items) (above (families links.now.items) (slot_in node))) }
-{
-    let _parent = parent_at(links, slot_of(node))?;
-    node_at(links, sides_at(links, slot_of(node)).0)
+    let slot = slot_of(node);
+    match parent_at(links, slot) {
+        Some(_) => sides_at(links, slot),
+        None => (None, None),
+    }
 }

@@ -24,9 +24,7 @@ ghost use Rattle.scene_tree.specs.Moves.{FailsAsMove};
 ghost use Rattle.scene_tree.specs.Spots.{named, placed};
 ghost use Rattle.scene_tree.specs.declared.spot.Spot.TheVariants as spots;
 
-use crate::links::{
-    attach, children_at, cut, depth_at, detach, gather, is_under, open_slot, parent_at,
-};
+use crate::links::{attach, cut, depth_at, detach, gather, is_under, open_slot, parent_at};
 use crate::node::{Node, TreeError};
 use crate::packed::Links;
 use crate::spot::Spot;
@@ -518,7 +516,7 @@ impl<T, S: Storage<T>> SceneTree<T, S> {
         if !self.is_alive(node) {
             return Err(self.stale(node));
         }
-        Ok(children_at(links, slot_of(node)))
+        Ok(Children::new(links, slot_of(node)))
     }
 
     /// Returns a list of a node and all below it, each once, level by level: first the node, and then
@@ -842,28 +840,18 @@ fn make<T, S: Storage<T>>(
     ensures back { IfErr result (λ refusal. refusal.value ≡ value) }
     ensures cause { IfErr result (λ refusal. refusal.cause ≡ OutOfMemory) }
 {
+    let cause = StoreError::OutOfMemory;
     if !links.reserve() {
-        return Err(lacking(value));
+        return Err(Refusal { value, cause });
     }
     let Ok(site) = sites.find_or_add(here) else {
-        return Err(lacking(value));
+        return Err(Refusal { value, cause });
     };
     let raw = store.new(value, here, None)?;
     let node = handle_at(raw.id, site);
     sites.tell(site);
     open_slot(links, node);
     Ok(node)
-}
-
-// The error for a value that couldn't be stored because memory ran out.
-fn lacking<T>(value: T) -> Refusal<T>
-    ensures value { result.value ≡ value }
-    ensures cause { result.cause ≡ OutOfMemory }
-{
-    Refusal {
-        value,
-        cause: StoreError::OutOfMemory,
-    }
 }
 
 // Drops the values of nodes except for the first one's, which it returns.

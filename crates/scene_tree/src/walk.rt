@@ -3,9 +3,8 @@
 ghost use Rattle.std.specs.Prelude.{◌≡◌, ◌<◌, ◌∷◌, [], length, Option, ℕ};
 ghost use Rattle.handles.specs.Handles.{slot_in};
 ghost use Rattle.std.specs.Iterator.{YieldsFirst, item_count};
-ghost use Rattle.scene_tree.specs.Families.{IsForest, AreChildrenLinked, families};
-ghost use Rattle.scene_tree.specs.Walking.{IsRest, IsNodeWithin, way_up};
-ghost use Rattle.scene_tree.specs.Chains.{chain};
+ghost use Rattle.scene_tree.specs.Families.{IsForest, AreChildrenLinked, children_at, families};
+ghost use Rattle.scene_tree.specs.Walking.{IsNodeWithin, way_up};
 ghost use Rattle.scene_tree.specs.Rows.{IsRow, rows, waiting};
 
 use crate::links::{next_row, parent_at};
@@ -89,10 +88,12 @@ impl<'a, T> Model for Children<'a, T> {
 }
 
 impl<'a, T> Children<'a, T> {
-    pub(crate) fn new(links: &'a Links<T>, next: Option<usize>) -> Self
-        requires { IsRest links.now.items next }
-        ensures { result ≡ chain links.now.items (length links.now.items) next }
+    pub(crate) fn new(links: &'a Links<T>, slot: usize) -> Self
+        requires linked { AreChildrenLinked links.now.items }
+        requires within { slot < length links.now.items }
+        ensures { result ≡ children_at (families links.now.items) slot }
     {
+        let next = links.at(slot).first;
         Children { links, next }
     }
 }

@@ -11,4 +11,4 @@ returns g c n at =
     c.into_iter-child-iterator.ensures.into_iter_gives)
     c.loop-child.yielded _ c.loop-child.yielded_by _ _ c.in-None.is c.next.ensures.steps in
     c.loop-child.invariant ∙ ap (λ xs. list ++ xs) (sym (sym all.0 ∙ map-id c.loop-child.yielded)
-    ∙ (c.children_at-child-items.ensures ∙ ap (children_at _) (c.slot_of.ensures ∙ ap slot_in same)))
+    ∙ (c.new-child-items.ensures ∙ ap (children_at _) (c.slot_of.ensures ∙ ap slot_in same)))

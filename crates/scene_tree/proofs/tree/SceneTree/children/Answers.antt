@@ -1,8 +1,8 @@
 use Rattle.scene_tree.proofs.{arith, kept_tree, live_slot, told_live, told_in}
 use Rattle.scene_tree.proofs.tree.SceneTree.children.Goals as goal
 
-pub children_at-requires-clause-within : goal.children_at-requires-clause-within
-children_at-requires-clause-within g c =
+pub new-requires-clause-within : goal.new-requires-clause-within
+new-requires-clause-within g c =
     let live = told_live c.args.node c.self.view_is c.is_alive.ensures c.if-not-is_alive.false in
     let lt = live_slot _ (g.met.S.AnyStorage.sound _) c.self.invariant.0 c.args.node live in omega (arith, lt, c.slot_of.ensures)
 
