@@ -76,6 +76,20 @@ pub fn last_child<S: Storage<u64>>(
     Ok(last)
 }
 
+/// The last two of a node's children, the last first.
+pub fn last_two<S: Storage<u64>>(
+    tree: &SceneTree<u64, S>,
+    node: Node<u64>,
+) -> Result<(Option<Node<u64>>, Option<Node<u64>>), Stale>
+    ensures { IfOk result (λ two. (others : List (Node ℕ)) (first second : Node ℕ) →
+        children_of tree.now node ≡ others ++ first ∷ second ∷ [] → two ≡ (Some second, Some first)) }
+{
+    let mut children = tree.children_backwards(node)?;
+    let last = children.next();
+    let before = children.next();
+    Ok((last, before))
+}
+
 /// Whether a node is the first of its siblings: a root is.
 pub fn is_first<S: Storage<u64>>(tree: &SceneTree<u64, S>, node: Node<u64>) -> Result<bool, Stale>
     ensures { IfOk result (λ first. first ≡ true → previous_in node (siblings_of tree.now node) ≡ None) }

@@ -1,5 +1,5 @@
 -- Chains: how a list of children lies in the links of their slots.
-use Rattle.std.specs.Prelude.{◌≡◌, ◌++◌, ℕ, suc, zero, List, [], ◌∷◌, Option, None, Some, slice_get}
+use Rattle.std.specs.Prelude.{◌≡◌, ◌++◌, ℕ, suc, zero, List, [], ◌∷◌, Option, None, Some, map, slice_get}
 use Rattle.scene_tree.specs.declared.links.Link.{Link}
 use Rattle.handles.specs.Handles.{slot_in}
 use Rattle.scene_tree.specs.Nodes.{Node}
@@ -64,6 +64,14 @@ module _ {T : Type 0} where
   abbrev pub alone_at : Node T → Link T
   alone_at node =
       record { node = node; parent = None; first = None; last = None; before = None; after = None }
+
+  -- a link read backwards: last is first, and after is before
+  abbrev pub backwards : Link T → Link T
+  backwards l = record l { first = l.last; last = l.first; before = l.after; after = l.before }
+
+  -- links of which each is read backwards
+  abbrev pub turned : List (Link T) → List (Link T)
+  turned links = map backwards links
 
   -- a list has the children of a slot
   pub record IsHeld (links : List (Link T)) (slot : ℕ) (list : List (Node T)) : Type 0 where

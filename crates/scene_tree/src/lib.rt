@@ -24,7 +24,7 @@ pub use crate::nodes::{Nodes, Roots};
 pub use crate::parts::{ChildRow, PartsFault, TreeParts};
 pub use crate::spot::Spot;
 pub use crate::tree::SceneTree;
-pub use crate::walk::{Ancestors, Children, Outline};
+pub use crate::walk::{Ancestors, Children, ChildrenBackwards, Outline};
 pub use generational_core::HandedBack;
 pub use handles::{Handle, Sites, Stale};
 pub use live_cells::CellFault;

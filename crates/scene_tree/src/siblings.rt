@@ -47,10 +47,7 @@ impl<T, S: Storage<T>> SceneTree<T, S> {
         ensures stale { IsErr result ↔ value_of self.now node ≡ None }
         ensures told { IfErr result (λ stale. stale.created_at ≡ created_at self.now node) }
     {
-        if !self.is_alive(node) {
-            return Err(self.stale(node));
-        }
-        Ok(last_at(&self.links, slot_of(node)))
+        Ok(self.children_backwards(node)?.next())
     }
 
     /// Returns the sibling right behind a node, if there is one: None of a last child, and of a root.
@@ -105,15 +102,6 @@ fn node_at<T>(links: &Links<T>, slot: Option<usize>) -> Option<Node<T>>
         return None;
     }
     Some(links.at(slot).node)
-}
-
-// The last child of a slot's node.
-fn last_at<T>(links: &Links<T>, slot: usize) -> Option<Node<T>>
-    requires linked { AreChildrenLinked links.now.items }
-    requires within { slot < length links.now.items }
-    ensures { result ≡ last_or None (children_at (families links.now.items) slot) }
-{
-    node_at(links, links.at(slot).last)
 }
 
 // The slots of the siblings before and after a node: none of a root.

@@ -1,6 +1,6 @@
 //! Trees of nodes.
 
-ghost use Rattle.std.specs.Prelude.{ℕ, ◌<◌, ◌≤◌, ◌+◌, true, List, length, slice_get};
+ghost use Rattle.std.specs.Prelude.{ℕ, ◌<◌, ◌≤◌, ◌+◌, true, List, length, reverse, slice_get};
 ghost use Rattle.std.specs.Prelude.{◌≡◌, ◌≢◌, ◌↔◌, ◌⊎◌, ◌++◌, ◌∷◌, [], None, Some, Err};
 ghost use Rattle.std.specs.Prelude.{IfOk, OnOk, IfErr, OnErr, IsErr, IsErrAnd};
 ghost use Rattle.std.specs.Borrow.{MutBor};
@@ -28,7 +28,7 @@ use crate::links::{attach, cut, depth_at, detach, gather, is_under, open_slot, p
 use crate::node::{Node, TreeError};
 use crate::packed::Links;
 use crate::spot::Spot;
-use crate::walk::{Ancestors, Children, Outline};
+use crate::walk::{Ancestors, Children, ChildrenBackwards, Outline};
 use generational_core::{HandedBack, Location, Refusal, Storage, StoreError};
 use handles::Stale;
 use handles::parts::{Sites, handle_at, number_of, peek, pointer_to, site_of, slot_of};
@@ -517,6 +517,30 @@ impl<T, S: Storage<T>> SceneTree<T, S> {
             return Err(self.stale(node));
         }
         Ok(Children::new(links, slot_of(node)))
+    }
+
+    /// Iterates over a node's children, from the last to the first. Doesn't allocate, and is O(1), like
+    /// each of its steps.
+    ///
+    /// # Errors
+    ///
+    /// `Stale` if the node was removed, or is of a store with another number.
+    ///
+    /// ```rust
+    /// for node in tree.children_backwards(root)? {
+    ///     println!(rt; "{}", tree.get(node)?)?;
+    /// }
+    /// ```
+    pub fn children_backwards(&self, node: Node<T>) -> Result<ChildrenBackwards<'_, T>, Stale>
+        ensures children { IfOk result (λ children. children ≡ reverse (children_of self.now node)) }
+        ensures stale { IsErr result ↔ value_of self.now node ≡ None }
+        ensures told { IfErr result (λ stale. stale.created_at ≡ created_at self.now node) }
+    {
+        let links = &self.links;
+        if !self.is_alive(node) {
+            return Err(self.stale(node));
+        }
+        Ok(ChildrenBackwards::new(links, slot_of(node)))
     }
 
     /// Returns a list of a node and all below it, each once, level by level: first the node, and then

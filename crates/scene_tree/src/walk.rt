@@ -1,6 +1,6 @@
-//! Iterators from a node to its root, over its children, and over its subtree.
+//! Iterators from a node to its root, over its children in both directions, and over its subtree.
 
-ghost use Rattle.std.specs.Prelude.{◌≡◌, ◌<◌, ◌∷◌, [], length, Option, ℕ};
+ghost use Rattle.std.specs.Prelude.{◌≡◌, ◌<◌, ◌∷◌, [], length, reverse, Option, ℕ};
 ghost use Rattle.handles.specs.Handles.{slot_in};
 ghost use Rattle.std.specs.Iterator.{YieldsFirst, item_count};
 ghost use Rattle.scene_tree.specs.Families.{IsForest, AreChildrenLinked, children_at, families};
@@ -114,6 +114,57 @@ impl<'a, T> Iterator for Children<'a, T> {
 }
 
 impl<'a, T> FusedIterator for Children<'a, T> {}
+
+/// The children of a node, from the last to the first: the iterator of
+/// [`SceneTree::children_backwards`](crate::SceneTree::children_backwards). Contracts model it as the
+/// list of the remaining ones.
+#[derive(Drop)]
+pub struct ChildrenBackwards<'a, T> {
+    links: &'a Links<T>,
+    next: Option<usize>,
+}
+
+impl<'a, T> Model for ChildrenBackwards<'a, T> {
+    ghost use Rattle.std.specs.Prelude.{List, length};
+    ghost use Rattle.scene_tree.specs.Nodes.{Node};
+    ghost use Rattle.scene_tree.specs.Chains.{chain, turned};
+    ghost use Rattle.scene_tree.specs.Walking.{IsRest};
+
+    ghost Value = { List (Node T) };
+
+    ghost view = { λ it. chain (turned it.links.now.items) (length (turned it.links.now.items)) it.next };
+
+    ghost invariant = { λ it. IsRest (turned it.links.now.items) it.next };
+}
+
+impl<'a, T> ChildrenBackwards<'a, T> {
+    #[tactic(auto, using(crate::proofs::Backwards::turned_rest, crate::proofs::Backwards::turned_walk))]
+    pub(crate) fn new(links: &'a Links<T>, slot: usize) -> Self
+        requires linked { AreChildrenLinked links.now.items }
+        requires within { slot < length links.now.items }
+        ensures { result ≡ reverse (children_at (families links.now.items) slot) }
+    {
+        let next = links.at(slot).last;
+        ChildrenBackwards { links, next }
+    }
+}
+
+impl<'a, T> Iterator for ChildrenBackwards<'a, T> {
+    type Item = Node<T>;
+
+    ghost next_gives = { YieldsFirst (λ left. left) };
+
+    ghost remaining = { item_count (λ left. left) };
+
+    fn next(&mut self) -> Option<Node<T>> {
+        let slot = self.next?;
+        let link = self.links.at(slot);
+        self.next = link.before;
+        Some(link.node)
+    }
+}
+
+impl<'a, T> FusedIterator for ChildrenBackwards<'a, T> {}
 
 /// A node and those below it, each before its children, with its depth below the first: the iterator of
 /// [`SceneTree::outline`](crate::SceneTree::outline). Contracts model it as the list of the remaining

@@ -152,6 +152,29 @@ fn is_beside<S: Storage<u64>>(
     is_found(rt, nodes, tree.next_sibling(node), next);
 }
 
+/// Sees a node's children, in order and from the last to the first.
+fn has_children<S: Storage<u64>>(
+    rt: &impl Abort,
+    alloc: Global,
+    tree: &SceneTree<u64, S>,
+    nodes: &[Node<u64>],
+    number: usize,
+    wanted: (&[usize], &[usize]),
+) {
+    let node = node_at(rt, nodes, number);
+    let (numbers, backwards) = wanted;
+    let mut found = Vec::new(alloc);
+    for child in tree.children(node).expect(rt, "a live node") {
+        given(rt, found.push(child));
+    }
+    are_nodes(rt, nodes, found.as_slice(), numbers);
+    let mut found = Vec::new(alloc);
+    for child in tree.children_backwards(node).expect(rt, "a live node") {
+        given(rt, found.push(child));
+    }
+    are_nodes(rt, nodes, found.as_slice(), backwards);
+}
+
 /// A root with three children, of which one is moved, one is removed, and one is made a root.
 struct BesideEachOther;
 
@@ -167,11 +190,15 @@ impl Scene<u64> for BesideEachOther {
         is_beside(rt, &tree, &nodes, 1, (None, None, None, Some(2)));
         is_beside(rt, &tree, &nodes, 2, (None, None, Some(1), Some(3)));
         is_beside(rt, &tree, &nodes, 3, (None, None, Some(2), None));
+        has_children(rt, alloc, &tree, &nodes, 0, (&[1, 2, 3], &[3, 2, 1]));
+        has_children(rt, alloc, &tree, &nodes, 1, (&[], &[]));
         given(rt, tree.move_at(first, Spot::After(third)));
         is_beside(rt, &tree, &nodes, 0, (Some(2), Some(1), None, None));
         is_beside(rt, &tree, &nodes, 3, (None, None, Some(2), Some(1)));
+        has_children(rt, alloc, &tree, &nodes, 0, (&[2, 3, 1], &[1, 3, 2]));
         given(rt, tree.remove_subtree(third));
         is_beside(rt, &tree, &nodes, 2, (None, None, None, Some(1)));
+        has_children(rt, alloc, &tree, &nodes, 0, (&[2, 1], &[1, 2]));
         given(rt, tree.detach(first));
         is_beside(rt, &tree, &nodes, 1, (None, None, None, None));
         is_beside(rt, &tree, &nodes, 0, (Some(2), Some(2), None, None));
@@ -241,6 +268,7 @@ fn is_unknown<S: Storage<u64>>(
     assert_same(rt, &tree.get(node).err(), &Some(stale));
     assert_same(rt, &tree.parent(node).err(), &Some(stale));
     assert_same(rt, &tree.children(node).err(), &Some(stale));
+    assert_same(rt, &tree.children_backwards(node).err(), &Some(stale));
     assert_same(rt, &tree.ancestors(node).err(), &Some(stale));
     assert_same(rt, &tree.outline(node, 9).err(), &Some(stale));
     assert_same(rt, &tree.depth(node), &Err(stale));
