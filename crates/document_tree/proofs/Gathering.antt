@@ -2,7 +2,7 @@
 use Rattle.document_tree.proofs.Keeping.Common.{ap, arith, Bool, children_in, children_shown, DocumentState, inl, inr, IsBelowPlace, IsBelowBy, IsDocumentKept, is_some, length}
 use Rattle.document_tree.proofs.Keeping.Common.{List, None, Option, part_at, part_in, Place, refl, reverse, same_Some, shown_in, shown_of, slice_get, Some}
 use Rattle.document_tree.proofs.Keeping.Common.{subst, suc, sym, true, true≢false, unwrap_or, zero, ℕ, [], ⊎_elim, ◌++◌, ◌+◌, ◌<◌, ◌∙◌, ◌∷◌, ◌≡◌, ◌≢◌, ◌⊎◌}
-use Rattle.document_tree.proofs.Keeping.Common.{cases_lt, id_in, slice_get_within, slice_index_or, ◌≤◌}
+use Rattle.document_tree.proofs.Keeping.Common.{cases_lt, id_in, none-some, slice_get_within, slice_index_or, ◌≤◌}
 use Rattle.document_tree.proofs.Keeping.{led_part, live_shows}
 use Rattle.document_tree.specs.Marks.{IsMarked, IsPassed, MarksFirst}
 use Rattle.std.proofs.lemmas.List.Elements.{All-contains_itself, All-weaker, Contains-append_cases, Contains-append_left}
@@ -253,3 +253,36 @@ module _ {T : Type 0} (D : DocumentState T) (top : Place) where
     pub gathered_live : IsDocumentKept D.state D.parts D.sites → All (λ p. is_some (shown_in D p) ≡ true) places
     gathered_live kept = All-weaker (Contains places) (λ p. is_some (shown_in D p) ≡ true)
         (λ p within. live_shows kept p ∙ ap is_some (so.listed p within).1) places (All-contains_itself places)
+
+module _ {T : Type 0} (D : DocumentState T) (top : Place) where
+  -- the first is listed first, or waits alone
+  abbrev pub IsFirst : List Place → List Place → List Bool → Type 0
+  IsFirst places waiting marks = ((places ≡ []) × (waiting ≡ top ∷ []) × ((key : ℕ) → IsMarked marks key → ⊥))
+      ⊎ (slice_get places 0 ≡ Some top)
+
+  first_pushed : (places : List Place) (next : Place) → slice_get places 0 ≡ Some top
+      → slice_get (places ++ next ∷ []) 0 ≡ Some top
+  first_pushed [] next is = absurd (none-some top is)
+  first_pushed (p ∷ places) next is = is
+
+  pub first_more : (places more waiting left : List Place) (next : Place) (marks new : List Bool)
+      → IsFirst places waiting marks → Contains waiting next → more ≡ places ++ next ∷ [] → IsFirst more left new
+  first_more places more waiting left next marks new so has is = inr (subst (λ l. slice_get l 0 ≡ Some top) (sym is) (⊎_elim
+      (λ begun. subst (λ l. slice_get (l ++ next ∷ []) 0 ≡ Some top) (sym begun.0)
+      (ap Some (sym (one_in top next (subst (λ l. Contains l next) begun.1 has)))))
+      (λ first. first_pushed places next first) so))
+
+  -- so in the end it is listed first, if it is live
+  pub first_listed : (places waiting : List Place) (marks : List Bool) → IsFirst places waiting marks
+      → ((q : Place) → Contains waiting q → IsPassed D marks q) → is_some (shown_in D top) ≡ true
+      → slice_get places 0 ≡ Some top
+  first_listed places waiting marks so none live = ⊎_elim
+      (λ begun. absurd (dead (none top (subst (λ l. Contains l top) (sym begun.1) (0, omega arith, refl))) begun.2))
+      (λ first. first) so
+    where
+      dead : IsPassed D marks top → ((key : ℕ) → IsMarked marks key → ⊥) → ⊥
+      dead passed unmarked = from (part_in D top) refl
+        where
+          from : (key : Option ℕ) → part_in D top ≡ key → ⊥
+          from None gone = true≢false (sym live ∙ ap (λ o. is_some (shown_of (part_at D.parts o))) gone)
+          from (Some key) at = unmarked key (passed key at)

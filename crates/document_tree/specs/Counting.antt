@@ -1,5 +1,5 @@
--- How many places a document has, and how many of them refer to a part.
-use Rattle.std.specs.Prelude.{◌≡◌, ℕ, is_some, true}
+-- How many places and parts a document has, and how many places refer to a part.
+use Rattle.std.specs.Prelude.{◌≡◌, ℕ, Some, is_some, true}
 use Rattle.document_tree.specs.Documents.{DocumentState, Place, part_in}
 use Rattle.document_tree.specs.Keeping.{AreExactly, key_in}
 
@@ -11,3 +11,7 @@ module _ {T : Type 0} where
   -- so many places refer to the part of a place
   abbrev pub PartHasPlaces : DocumentState T → Place → ℕ → Type 0
   PartHasPlaces D p n = AreExactly n (λ id. key_in D.state id ≡ part_in D p)
+
+  -- so many parts have a place
+  abbrev pub HasParts : DocumentState T → ℕ → Type 0
+  HasParts D n = AreExactly n (λ key. (p : Place) × (part_in D p ≡ Some key))

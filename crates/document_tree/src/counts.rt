@@ -1,8 +1,8 @@
 //! How much is in a document.
 
 ghost use Rattle.std.specs.Prelude.{◌≡◌, ◌↔◌, None, IfErr, IfOk, IsErr, IsTrue, count_by, is_some};
-ghost use Rattle.document_tree.specs.Counting.{HasPlaces, PartHasPlaces};
-ghost use Rattle.document_tree.specs.Documents.{created_at, shown_in};
+ghost use Rattle.document_tree.specs.Counting.{HasParts, HasPlaces, PartHasPlaces};
+ghost use Rattle.document_tree.specs.Documents.{Place, created_at, shown_in};
 
 use crate::document::Document;
 use crate::part::Part;
@@ -28,8 +28,11 @@ impl<T, S: Storage<u32>> Document<T, S> {
     /// let is_blank = document.is_empty();
     /// ```
     pub fn is_empty(&self) -> bool
-        ensures { IsTrue result ↔ HasPlaces self.now 0 }
+        ensures count { IsTrue result ↔ HasPlaces self.now 0 }
+        ensures none { IsTrue result ↔ ((p : Place) → shown_in self.now p ≡ None) }
     {
+        // The proof takes what holds of the document from this borrow.
+        let _ = &self.store;
         self.len() == 0
     }
 
@@ -39,7 +42,8 @@ impl<T, S: Storage<u32>> Document<T, S> {
     /// println!(rt; "{} parts", document.part_count())?;
     /// ```
     pub fn part_count(&self) -> usize
-        ensures { result ≡ count_by is_some self.now.parts }
+        ensures count { result ≡ count_by is_some self.now.parts }
+        ensures used { HasParts self.now result }
     {
         self.parts.len()
     }

@@ -390,6 +390,7 @@ impl<T, S: Storage<u32>> Document<T, S> {
     where
         T: Drop,
         ensures ended { (q : Place) → IsSame place q → shown_in self.new q ≡ None }
+        ensures parted { (q : Place) → IsSame place q → part_in self.new q ≡ None }
         ensures others { (q : Place) → IsOther place q → Leaves self.old q self.new }
         ensures ends { OnOk result (IsOnlyPlace self.old place →
             EndsPart self.old place self.new) }
@@ -441,6 +442,7 @@ impl<T, S: Storage<u32>> Document<T, S> {
     #[inline(always)]
     pub(crate) fn key_of(&self, place: Place) -> Result<u32, Stale>
         ensures key { IfOk result (λ key. part_in self.now place ≡ Some key) }
+        ensures none { IsErr result → part_in self.now place ≡ None }
         ensures gone { IsErr result ↔ shown_in self.now place ≡ None }
         ensures told { IfErr result (λ stale. stale.created_at ≡ created_at self.now place) }
     {

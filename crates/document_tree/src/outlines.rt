@@ -1,7 +1,7 @@
 //! Outlines: the places below a place, in the order in which a document is read.
 
 ghost use Rattle.std.specs.Prelude.{◌≡◌, ◌≢◌, ◌⊎◌, ◌<◌, ◌++◌, ◌∷◌, ◌+◌, ℕ, [], IfNone, IfOk, IfSome, IsFalse, IsTrue, OnOk, Some};
-ghost use Rattle.std.specs.Prelude.{is_some, length, map, reverse, true};
+ghost use Rattle.std.specs.Prelude.{is_some, length, map, reverse, slice_get, true};
 ghost use Rattle.std.specs.List.{All, AllPairs, Contains};
 ghost use Rattle.document_tree.specs.Documents.{Place, part_in, shown_in};
 ghost use Rattle.document_tree.specs.Outlines.{IsBelowPlace, children_in, deep_outline_of, outline_places};
@@ -78,8 +78,8 @@ impl<T, S: Storage<u32>> Document<T, S> {
         Ok(places)
     }
 
-    /// Returns a list that has each part once that is at the place or below it: a place of each. A removed
-    /// place isn't listed. A document may have cycles.
+    /// Returns a list that has each part once that is at the place or below it: a place of each. The place
+    /// itself is the first, if it is live. A removed place isn't listed. A document may have cycles.
     ///
     /// Allocates the list, one of the pending places, and a byte for each part of the document. O(n) for n
     /// listed places and their children, and for the parts of the document.
@@ -94,6 +94,8 @@ impl<T, S: Storage<u32>> Document<T, S> {
     /// }
     /// ```
     pub fn outline_once(&self, place: Place) -> Result<Vec<Place>, AllocError>
+        ensures first { IfOk result (λ places. is_some (shown_in self.now place) ≡ true →
+            slice_get places.items 0 ≡ Some place) }
         ensures live { IfOk result (λ places. All (λ p. is_some (shown_in self.now p) ≡ true) places.items) }
         ensures below { IfOk result (λ places. All (IsBelowPlace self.now place) places.items) }
         ensures once { IfOk result (λ places.

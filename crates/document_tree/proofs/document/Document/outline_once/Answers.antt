@@ -1,6 +1,6 @@
-use Rattle.document_tree.proofs.Gathering.{gathered_below, gathered_every, gathered_live, gathering_begun, gathering_more}
+use Rattle.document_tree.proofs.Gathering.{first_listed, first_more, gathered_below, gathered_every, gathered_live, gathering_begun, gathering_more}
 use Rattle.document_tree.proofs.Gathering.{IsGathering, key_within, mark_fewer, no_marks, none_in, unmarked}
-use Rattle.document_tree.proofs.{ap, DocumentState, IsDocumentKept, length, None, Place, slice_index_or, subst, sym, ℕ, [], ⊎_elim, ◌<◌, ◌∙◌, ◌∷◌, ◌≡◌, ◌≤◌}
+use Rattle.document_tree.proofs.{ap, DocumentState, inl, IsDocumentKept, length, None, Place, slice_index_or, subst, sym, ℕ, [], ⊎_elim, ◌<◌, ◌∙◌, ◌∷◌, ◌≡◌, ◌≤◌}
 use Rattle.document_tree.specs.Marks.{IsMarked, IsPassed}
 use Rattle.std.proofs.lemmas.List.{length-replicate, length-set}
 use Rattle.std.specs.List.{Contains}
@@ -16,6 +16,11 @@ loop-next-init g c =
           (subst (λ l. IsGathering c.args.self.now c.args.place [] l c.in_ok-marks.marks.items) (sym c.in_ok-waiting.ensures.items)
           (gathering_begun c.args.self.now c.args.place c.in_ok-marks.marks.items
           (λ key is. no_marks c.in-Some.end key (subst (λ l. IsMarked l key) marks is))));
+      first = inl (
+        c.new-places.ensures.items,
+        c.in_ok-waiting.ensures.items,
+        λ key is. no_marks c.in-Some.end key (subst (λ l. IsMarked l key) marks is),
+      );
       length = ap length marks ∙ length-replicate c.in-Some.end false;
     }
 
@@ -41,6 +46,10 @@ loop-next-preserved g c =
           c.loop-next.marks.items c.next_unmarked.new.marks.items c.in-Some-next_unmarked.next
           c.loop-next.invariant.gathering found.0 found.1 c.in-Some-next_unmarked.ensures.left
           c.in-Some-next_unmarked.ensures.passed c.in_ok-push.ensures.items c.in_ok-put_children.ensures;
+      first = first_more c.args.self.now c.args.place c.loop-next.places.items c.push.new.self.items
+          c.loop-next.waiting.items c.put_children.new.places.items c.in-Some-next_unmarked.next
+          c.loop-next.marks.items c.next_unmarked.new.marks.items
+          c.loop-next.invariant.first found.0 c.in_ok-push.ensures.items;
       length = ap length found.1.3 ∙ (length-set c.loop-next.marks.items _ _ ∙ c.loop-next.invariant.length);
     }
 
@@ -71,3 +80,13 @@ returns-clause-every g c =
     (λ is. subst (λ l. IsPassed c.args.self.now l q) c.in_default-next_unmarked.ensures.same is)
     (c.in_default-next_unmarked.ensures.passed q waits) in
     gathered_every c.args.self.now c.args.place c.loop-next.invariant.gathering none
+
+pub returns-clause-first : goal.returns-clause-first
+returns-clause-first g c =
+    let none : (q : Place) → Contains c.loop-next.waiting.items q → IsPassed c.args.self.now c.loop-next.marks.items q =
+    λ q waits. ⊎_elim
+    (λ on. absurd (none_in c.next_unmarked.new.waiting.items q c.in_default-next_unmarked.ensures.none on))
+    (λ is. subst (λ l. IsPassed c.args.self.now l q) c.in_default-next_unmarked.ensures.same is)
+    (c.in_default-next_unmarked.ensures.passed q waits) in
+    first_listed c.args.self.now c.args.place c.loop-next.places.items c.loop-next.waiting.items c.loop-next.marks.items
+    c.loop-next.invariant.first none

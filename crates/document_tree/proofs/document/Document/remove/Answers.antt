@@ -26,6 +26,12 @@ returns-clause-ended g c q same =
     let moves = ended_moves (g.met.S.AnyStorage.sound _) c.pointer_to.result c.args.place c.pointer_to.ensures _ was c.in-Ok.ensures in
     ap (λ o. shown_of (part_at c.leave.new.parts.slots o)) (sym (same_id_sees _ (pointer_in c.args.place) (pointer_in q) same) ∙ moves.is)
 
+pub returns-clause-parted : goal.returns-clause-parted
+returns-clause-parted g c q same =
+    let was = rw (← c.self.view_is) at c.in_ok-key.ensures.key in
+    let moves = ended_moves (g.met.S.AnyStorage.sound _) c.pointer_to.result c.args.place c.pointer_to.ensures _ was c.in-Ok.ensures in
+    sym (same_id_sees _ (pointer_in c.args.place) (pointer_in q) same) ∙ moves.is
+
 pub returns-clause-others : goal.returns-clause-others
 returns-clause-others g c =
     let was = rw (← c.self.view_is) at c.in_ok-key.ensures.key in
