@@ -1,2 +1,3 @@
 pub mod Walks
 unfoldable pub use Walks.*
+pub mod Counts

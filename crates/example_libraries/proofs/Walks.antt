@@ -27,6 +27,22 @@ holds_all {P} {Y} view Q items ys is each row y at =
     by None none h = absurd (none-some _ none)
     by (Some p) same h = subst Q (same_Some _ _ same) (h p refl)
 
+-- what is listed of each item is that part of all that is seen
+pub listed_alike : {P Y Z : Type 0} (view : P → Y) (part : Y → Z) (items : List P) (ys : List Y) (zs : List Z)
+    → map view items ≡ ys → zs ≡ map (λ p. part (view p)) items → zs ≡ map part ys
+listed_alike view part items ys zs all is = is ∙ (sym (map-map part view items) ∙ ap (map part) all)
+
+-- so what holds of that part of each item seen holds of all that is listed
+pub holds_listed : {P Y Z : Type 0} (view : P → Y) (part : Y → Z) (Q : Z → Type 0) (items : List P) (ys : List Y)
+    (zs : List Z) → map view items ≡ ys → zs ≡ map (λ p. part (view p)) items
+    → ((k : ℕ) (y : Y) → slice_get ys k ≡ Some y → Q (part y)) → (k : ℕ) (z : Z) → slice_get zs k ≡ Some z → Q z
+holds_listed {P} {Y} {Z} view part Q items ys zs all is each k z at = by (slice_get ys k) (sym (slice_get-map part ys k)
+    ∙ (ap (λ l. slice_get l k) (sym (listed_alike view part items ys zs all is)) ∙ at)) (each k)
+  where
+    by : (o : Option Y) → option_map part o ≡ Some z → ((y : Y) → o ≡ Some y → Q (part y)) → Q z
+    by None none h = absurd (none-some _ none)
+    by (Some y) same h = subst Q (same_Some _ _ same) (h y refl)
+
 -- the last of an element and those that follow it
 abbrev pub last_of : {X : Type 0} → X → List X → X
 last_of x [] = x

@@ -1,14 +1,19 @@
 //! Documents in which one part is in several places.
 
-ghost use Rattle.std.specs.Prelude.{◌≡◌, ◌≢◌, ◌<◌, ◌∷◌, None, Some, IfErr, IsErr, IsOk, OnOk, false, is_some, true};
-ghost use Rattle.document_tree.specs.Documents.{Place, content_shown, created_at, is_site, part_in, shown_in, with_children, Leaves, WasPlaced};
+ghost use Rattle.std.specs.Prelude.{◌≡◌, ◌≢◌, ◌<◌, ◌≤◌, ◌+◌, ◌↔◌, ◌∷◌, ℕ, List, None, Some, IfErr, IfNone, IfOk, IfSome, IsErr, IsOk, IsTrue, OnOk};
+ghost use Rattle.std.specs.Prelude.{false, is_some, length, true};
+ghost use Rattle.std.specs.List.{All, AllPairs, Contains};
+ghost use Rattle.document_tree.specs.Counting.{HasParts, HasPlaces};
+ghost use Rattle.document_tree.specs.Documents.{Place, content_shown, created_at, is_site, part_in, shown_in, with_children, EndsPart, Leaves, WasPlaced};
+ghost use Rattle.document_tree.specs.Outlines.{IsBelowPlace, children_in};
 ghost use Rattle.document_tree.specs.Parts.{is_full, too_many};
 ghost use Rattle.generational_core.specs.Slots.{free, slots};
 ghost use Rattle.generational_errors.specs.declared.error.Location.{Location};
-ghost use Rattle.handles.specs.Handles.{IsOther};
+ghost use Rattle.handles.specs.Handles.{IsOther, is_same};
 
 use document_tree::{Document, Place, PlaceError, Stale};
 use generational_box::{Location, Refusal, Storage};
+use std::alloc::AllocError;
 
 /// Gives a heading a new part, at each page that lists it, and drops its old part if no other place
 /// refers to it. Every other place is unchanged in each case.
@@ -66,6 +71,24 @@ pub fn behead_page<S: Storage<u32>>(
     document.take_child(page, 0)
 }
 
+/// Takes a child off a page, and returns whether the page listed it: it lists one child fewer then. Every
+/// place that leads to another part is left.
+pub fn taken_off<S: Storage<u32>>(
+    document: &mut Document<u64, S>,
+    page: Place,
+    child: Place,
+) -> Result<bool, Stale>
+    ensures fewer { IfOk result (λ was. was ≡ true →
+        length (children_in document.new page) + 1 ≡ length (children_in document.old page)) }
+    ensures none { IfOk result (λ was. was ≡ false →
+        All (λ p. is_same p child ≡ false) (children_in document.old page)) }
+    ensures others { (q : Place) → part_in document.old q ≢ part_in document.old page →
+        Leaves document.old q document.new }
+{
+    let index = document.remove_child(page, child)?;
+    Ok(index.is_some())
+}
+
 /// Removes a heading, and returns whether it was there. It is stale then.
 pub fn closed<S: Storage<u32>>(document: &mut Document<u64, S>, heading: Place) -> bool
     ensures stood { result ≡ is_some (shown_in document.old heading) }
@@ -111,4 +134,68 @@ pub fn refill<S: Storage<u32>>(
     ensures { IsOk result }
 {
     document.add(content, here)
+}
+
+/// Removes a place, and returns whether the document is blank then: no place refers to a part.
+pub fn blank_without<S: Storage<u32>>(document: &mut Document<u64, S>, place: Place) -> bool
+    ensures { IsTrue result ↔ ((q : Place) → shown_in document.new q ≡ None) }
+{
+    let _ = document.remove(place);
+    document.is_empty()
+}
+
+/// Removes a place, and returns how many are left: there was one more before.
+pub fn left_without<S: Storage<u32>>(
+    document: &mut Document<u64, S>,
+    place: Place,
+) -> Result<usize, Stale>
+    ensures { IfOk result (λ left. HasPlaces document.old (left + 1)) }
+{
+    document.remove(place)?;
+    Ok(document.len())
+}
+
+/// How many places there are beyond one for each part.
+pub fn repeats<S: Storage<u32>>(document: &Document<u64, S>) -> usize
+    ensures { (parts : ℕ) × HasParts document.now parts × HasPlaces document.now (parts + result) }
+{
+    let parts = document.part_count();
+    document.len() - parts
+}
+
+/// Removes a place if no other refers to its part, which is dropped with it. Returns whether it was so.
+pub fn removed_if_alone<S: Storage<u32>>(
+    document: &mut Document<u64, S>,
+    place: Place,
+) -> Result<bool, Stale>
+    ensures alone { IfOk result (λ alone. alone ≡ true → EndsPart document.old place document.new) }
+    ensures shared { IfOk result (λ alone. alone ≡ false →
+        (q : Place) × IsOther place q × (part_in document.new q ≡ part_in document.new place)) }
+{
+    if document.place_count(place)? > 1 {
+        return Ok(false);
+    }
+    document.remove(place)?;
+    Ok(true)
+}
+
+/// A place of each part that is on a page or below, if there are at most so many.
+pub fn parts_up_to<S: Storage<u32>>(
+    document: &Document<u64, S>,
+    page: Place,
+    most: usize,
+) -> Result<Option<Vec<Place>>, AllocError>
+    ensures every { IfOk result (λ found. IfSome found (λ places. (q : Place) → IsBelowPlace document.now page q →
+        is_some (shown_in document.now q) ≡ true →
+        (p : Place) × Contains places.items p × (part_in document.now p ≡ part_in document.now q))) }
+    ensures few { IfOk result (λ found. IfSome found (λ places. length places.items ≤ most)) }
+    ensures many { IfOk result (λ found. IfNone found ((places : List Place) × (most < length places)
+        × All (IsBelowPlace document.now page) places
+        × AllPairs (λ p q. part_in document.now p ≢ part_in document.now q) places)) }
+{
+    let places = document.outline_once(page)?;
+    if places.len() > most {
+        return Ok(None);
+    }
+    Ok(Some(places))
 }

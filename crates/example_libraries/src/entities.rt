@@ -1,17 +1,19 @@
 //! Entities, and their handles.
 
 ghost use Rattle.std.specs.Prelude.{◌≡◌, ◌≤◌, ◌<◌, ◌+◌, ◌%◌, ◌^◌, ℕ, None, Some, IsErr, IfErr, OnOk, true, false};
-ghost use Rattle.std.specs.Prelude.{IfOk, IfSome, IsFalse, IsTrue, OnErr, is_some};
+ghost use Rattle.std.specs.Prelude.{IfOk, IfSome, IsFalse, IsTrue, OnErr, is_some, slice_get};
 ghost use Rattle.entity_table.specs.Components.{component_in, sparse_in};
 ghost use Rattle.entity_table.specs.Tables.{Entity, created_at, element_in, WasSpawned};
 ghost use Rattle.generational_errors.specs.declared.error.Location.{Location};
-ghost use Rattle.handles.specs.Handles.{IsOther};
+ghost use Rattle.handles.specs.Handles.{IsOther, IsSame, is_same};
+ghost use Rattle.std.specs.List.{IsDistinct};
 
 use entity_table::{
     AttachError, ComponentTable, Entity, EntityTable, PairError, SparseTable, Stale,
     changed_components, changed_elements, changed_pairs, equal_entities_show_the_same,
 };
 use generational_box::{Location, Storage};
+use std::alloc::{AllocError, Global};
 
 /// Despawns an entity, spawns another, and looks at the first: that fails, and the error says where the
 /// first was made, whichever slot the second took.
@@ -127,6 +129,44 @@ pub fn rare_within<T>(uses: &SparseTable<T, u64>, limits: &ComponentTable<T, u64
         }
     }
     true
+}
+
+/// The live entities that have a component that few have: each of them, and none twice.
+pub fn all_with_rare<S: Storage<u64>>(
+    alloc: Global,
+    table: &EntityTable<u64, S>,
+    rare: &SparseTable<u64, u64>,
+) -> Result<Vec<Entity<u64>>, AllocError>
+    ensures only { IfOk result (λ list. (i : ℕ) (e : Entity ℕ) → slice_get list.items i ≡ Some e →
+        (is_some (element_in table.now e) ≡ true) × (is_some (sparse_in rare.now e) ≡ true)) }
+    ensures all { IfOk result (λ list. (e : Entity ℕ) (v c : ℕ) → element_in table.now e ≡ Some v →
+        sparse_in rare.now e ≡ Some c → (i : ℕ) × (f : Entity ℕ) × (slice_get list.items i ≡ Some f) × IsSame f e) }
+    ensures once { IfOk result (λ list. IsDistinct is_same list.items) }
+{
+    let mut list = Vec::new(alloc);
+    'walk: for (entity, _, _) in rare.join(table) {
+        list.push(entity)?;
+    }
+    Ok(list)
+}
+
+/// The entities that have a component in a table for few and in another: each of them, and none twice.
+pub fn all_with_both<T>(
+    alloc: Global,
+    rare: &SparseTable<T, u64>,
+    others: &ComponentTable<T, u64>,
+) -> Result<Vec<Entity<T>>, AllocError>
+    ensures only { IfOk result (λ list. (i : ℕ) (e : Entity T) → slice_get list.items i ≡ Some e →
+        (is_some (component_in others.now e) ≡ true) × (is_some (sparse_in rare.now e) ≡ true)) }
+    ensures all { IfOk result (λ list. (e : Entity T) (v c : ℕ) → component_in others.now e ≡ Some v →
+        sparse_in rare.now e ≡ Some c → (i : ℕ) × (f : Entity T) × (slice_get list.items i ≡ Some f) × IsSame f e) }
+    ensures once { IfOk result (λ list. IsDistinct is_same list.items) }
+{
+    let mut list = Vec::new(alloc);
+    'walk: for (entity, _, _) in rare.join_with(others) {
+        list.push(entity)?;
+    }
+    Ok(list)
 }
 
 /// Gives a live entity a component that few have, and removes the entity with it.

@@ -21,5 +21,6 @@ pub use Rattle.std.proofs.lemmas.Iterator.Consumers.{YieldsList-end, YieldsList-
 pub use Rattle.std.proofs.lemmas.List.Elements.{All-get_or}
 pub use Rattle.std.proofs.lemmas.Map.Entries.{place_from_lookup}
 pub use Rattle.std.proofs.lemmas.Option.{IfSome_then, none-some, same_Some, slice_get-map}
+pub use Rattle.std.proofs.lemmas.Simd.{map-map}
 pub use Rattle.std.proofs.{lemmas.Grind.common_steps, lemmas.Result.IfOk-weaker, lemmas.List.map-id}
 pub use Rattle.std.specs.Prelude.{is_some, IsErr, option_map, slice_get}
