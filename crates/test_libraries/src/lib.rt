@@ -10,6 +10,10 @@ mod counted;
 #[cfg(test)]
 mod document_acts;
 #[cfg(test)]
+mod document_counts;
+#[cfg(test)]
+mod document_counts_memory;
+#[cfg(test)]
 mod document_histories;
 #[cfg(test)]
 mod document_limits;

@@ -1,0 +1,48 @@
+//! Outlines that list each part once, whichever allocation fails.
+
+use crate::document_acts::document_over;
+use crate::document_memory::{add_or_again, append_or_again, repeat_or_again};
+use crate::expected::{assert_same, given};
+use crate::fresh::{Scene, play};
+use document_tree::{Document, Place};
+use generational_box::Storage;
+use std::alloc::Global;
+use std::process::Abort;
+
+/// How many children the page has, of which each is at two places of it.
+const MANY: u64 = 20;
+
+/// A page of many parts.
+struct ListMany;
+
+impl Scene<u32> for ListMany {
+    fn play<R: Abort, S: Storage<u32> + Drop>(&self, rt: &R, alloc: Global, store: S) {
+        let mut document = document_over(rt, alloc, store);
+        let page = add_or_again(rt, &mut document, 0);
+        for content in 0..MANY {
+            let first = add_or_again(rt, &mut document, content);
+            let second = repeat_or_again(rt, &mut document, first);
+            append_or_again(rt, &mut document, page, first);
+            append_or_again(rt, &mut document, page, second);
+        }
+        let listed = list_or_again(rt, &document, page);
+        assert_same(rt, &listed, &document.part_count());
+    }
+}
+
+/// How many parts are at a place or below it.
+fn list_or_again<S: Storage<u32>>(
+    rt: &impl Abort,
+    document: &Document<u64, S>,
+    place: Place,
+) -> usize {
+    match document.outline_once(place) {
+        Ok(listed) => listed.len(),
+        Err(_) => given(rt, document.outline_once(place)).len(),
+    }
+}
+
+#[test]
+fn an_outline_that_lacks_memory_is_made_again(rt: HostRuntime) {
+    play::<u32, ListMany>(&rt, rt.alloc(), &ListMany);
+}
