@@ -91,7 +91,7 @@ fn make_room(owners: &Vec<Owner>, edges: &mut Vec<Edge>, edge: Edge) -> bool
     }
     clean(owners, edges, edge);
     let more = edges.len().saturating_add(1);
-    edges.reserve(more).is_ok()
+    edges.reserve_exact(more).is_ok()
 }
 
 // Removes old edges, except for those that are the same as this one.

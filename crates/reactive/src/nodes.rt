@@ -38,6 +38,7 @@ use crate::node::Node;
 use crate::reader::{Questions, Reader};
 use crate::rule::Rule;
 use dirty_slots::DirtySlots;
+use generational_core::parts::pointer_at;
 use generational_core::{GenerationalBox, Location, Refusal, Storage, StoreError};
 use reactive_values::Value;
 use stamped_values::StampedValues;
@@ -59,14 +60,13 @@ pub struct Nodes<T, R, S: Storage<Node<T, R>>> {
     pub(crate) marker: PhantomData<(T, R)>,
 }
 
-/// The node of a key.
+/// The node of a key. Where its box was made doesn't matter to a look.
 pub(crate) fn node_of<T, R, S: Storage<Node<T, R>>>(store: &S, key: Key) -> Option<&Node<T, R>>
     ensures { option_copied result ≡ nodes_in (S.state store.now) key }
 {
-    match store.find(key.id) {
-        Some(pointer) => store.peek(pointer),
-        None => None,
-    }
+    let id = key.id;
+    let nowhere = Location::new("", 0, 0);
+    store.peek(pointer_at(id.store, id.slot, id.generation, nowhere))
 }
 
 /// The value of a key's node, if it is known to be what the node means.
@@ -114,7 +114,7 @@ impl<T: Value + Drop, R: Rule<T>, S: Storage<Node<T, R>>> Nodes<T, R, S> {
         let Some(pointer) = self.store.find(key.id) else {
             return None;
         };
-        if !self.store.can_write(pointer) {
+        if self.store.peek(pointer).is_none() {
             return None;
         }
         Some(self.store.change_value(pointer, f))
@@ -481,7 +481,13 @@ impl<T: Value + Drop, R: Rule<T>, S: Storage<Node<T, R>>> Nodes<T, R, S> {
     {
         match self.advance(top.key, top.place) {
             Step::Settled => match path.pop() {
-                Some(below) => Ok(Some(below)),
+                Some(below) => match node_of(&self.store, top.key) {
+                    Some(node) if node.changed == self.revision => Ok(Some(Frame {
+                        key: below.key,
+                        place: None,
+                    })),
+                    _ => Ok(Some(below)),
+                },
                 None => Ok(None),
             },
             Step::Needs(next, place) => {

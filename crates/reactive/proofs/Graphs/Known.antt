@@ -4,6 +4,7 @@ unfoldable pub use Meanings.*
 use Rattle.reactive.specs.declared.fault.Fault.TheVariants as fault
 use Rattle.reactive.specs.declared.look.Found.TheVariants as found
 use Rattle.reactive.specs.Hearing.{WasTold}
+use Rattle.std.specs.Borrow.{Bor}
 use Rattle.std.proofs.lemmas.List.Elements.{Contains-append_left, Contains-append_right, Contains-append_cases}
 
 -- ==== what is known of a table's nodes is what they mean
@@ -11,6 +12,11 @@ use Rattle.std.proofs.lemmas.List.Elements.{Contains-append_left, Contains-appen
 pub none_if : {X : Type 0} (o : Option X) → is_some o ≡ false → o ≡ None
 none_if None none = refl
 none_if (Some x) none = absurd (true≢false none)
+
+-- a copy is there exactly if the value is
+pub is_some_copied : {X : Type 0} (o : Option (Bor X)) → is_some (option_copied o) ≡ is_some o
+is_some_copied None = refl
+is_some_copied (Some x) = refl
 
 pub live_node : {X : Type 0} (o : Option X) → o ≢ None → (x : X) × (o ≡ Some x)
 live_node (Some x) live = (x, refl)
@@ -265,6 +271,11 @@ module _ {T R : Type 0} where
       others = λ j ne. others_left _ _ m (pointer_of b) (key_pointer j) (made_new _ _ _ _ m).0
           (same_value _ _ _ _ s m (key_pointer j) tt) (λ e. ne (same_key j k (sym e ∙ is)));
     }
+
+  -- a box may be written exactly if a look at it finds something
+  pub seen_writes : {S : State (Node T R)} → IsSoundStore S → IsSimple S → (b : GenerationalPointer) → {o : Option (Node T R)}
+      → o ≡ value_in S b → is_some o ≡ can_write S b
+  seen_writes {S} s simple b seen = ap is_some seen ∙ sym (quiet_sees S simple.unborrowed b s)
 
   -- the index where a key's box was found
   module _ {S : State (Node T R)} (s : IsSoundStore S) (simple : IsSimple S) (k : Key) (b : GenerationalPointer)

@@ -2,7 +2,7 @@
 pub use Rattle.generational_core.proofs.machine.Calls.{ends, made, made_apart, seen_reached, sets}
 pub use Rattle.generational_core.proofs.machine.Calls.Steps.{led_box, made_new, reaches}
 pub use Rattle.generational_core.proofs.machine.Calls.Steps.Changes.{some_live}
-pub use Rattle.generational_core.proofs.machine.{quiet_ends, same_value, Calls.unseen}
+pub use Rattle.generational_core.proofs.machine.{quiet_ends, quiet_sees, same_value, Calls.unseen}
 pub use Rattle.generational_core.specs.Borrowing.{can_write}
 pub use Rattle.generational_core.specs.Machine.Action.{End, Make, SetValue}
 pub use Rattle.generational_core.specs.Machine.Answer.{Done, Made, Old}

@@ -4,9 +4,27 @@ use Rattle.generational_errors.specs.declared.error.StoreError.TheVariants.{OutO
 use Rattle.reactive.specs.declared.fault.Fault.TheVariants as fault
 use Rattle.reactive.proofs.nodes.Nodes.go_on.Goals as goal
 
-pub returns-in-Some-clause-went : goal.returns-in-Some-clause-went
-returns-in-Some-clause-went g c = λ G start o.
+pub returns-in-Some-node_of-clause-went : goal.returns-in-Some-node_of-clause-went
+returns-in-Some-node_of-clause-went g c = λ G start o.
+    let back = way_back o (c.in-Settled.ensures.advanced G o.sound o.last) _ c.in-Some.below c.in-Some.ensures.items in
+    record { sound = back.sound; chain = back.chain; others = back.others; last = tt }
+
+pub returns-in_default-clause-went : goal.returns-in_default-clause-went
+returns-in_default-clause-went g c = λ G start o.
     way_back o (c.in-Settled.ensures.advanced G o.sound o.last) _ c.in-Some.below c.in-Some.ensures.items
+
+pub returns-in_default-2-clause-went : goal.returns-in_default-2-clause-went
+returns-in_default-2-clause-went g c = λ G start o.
+    way_back o (c.in-Settled.ensures.advanced G o.sound o.last) _ c.in-Some.below c.in-Some.ensures.items
+
+pub returns-in-Some-node_of-clause-lasts : goal.returns-in-Some-node_of-clause-lasts
+returns-in-Some-node_of-clause-lasts g c = λ G start o. (c.in-Settled.ensures.advanced G o.sound o.last).leaves.known
+
+pub returns-in_default-clause-lasts : goal.returns-in_default-clause-lasts
+returns-in_default-clause-lasts g c = λ G start o. (c.in-Settled.ensures.advanced G o.sound o.last).leaves.known
+
+pub returns-in_default-2-clause-lasts : goal.returns-in_default-2-clause-lasts
+returns-in_default-2-clause-lasts g c = λ G start o. (c.in-Settled.ensures.advanced G o.sound o.last).leaves.known
 
 pub returns-in-None-clause-went : goal.returns-in-None-clause-went
 returns-in-None-clause-went g c = λ G start o.
@@ -82,9 +100,6 @@ returns-in-Full-clause-went g c = λ G start o. (c.in-Full.ensures.advanced G o.
 
 pub returns-in-Full-clause-blamed : goal.returns-in-Full-clause-blamed
 returns-in-Full-clause-blamed g c = λ G start o kept. way_blames o _ (fault.Store OutOfMemory) (inl refl)
-
-pub returns-in-Some-clause-lasts : goal.returns-in-Some-clause-lasts
-returns-in-Some-clause-lasts g c = λ G start o. (c.in-Settled.ensures.advanced G o.sound o.last).leaves.known
 
 pub returns-in-None-clause-lasts : goal.returns-in-None-clause-lasts
 returns-in-None-clause-lasts g c = λ G start o. (c.in-Settled.ensures.advanced G o.sound o.last).leaves.known
