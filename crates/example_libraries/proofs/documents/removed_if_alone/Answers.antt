@@ -1,4 +1,3 @@
-use Rattle.document_tree.proofs.Counting.{only_place}
 use Rattle.example_libraries.proofs.Counts.{another_place}
 use Rattle.example_libraries.proofs.{arith}
 use Rattle.example_libraries.proofs.documents.removed_if_alone.Goals as goal
