@@ -30,7 +30,7 @@ PAGES += [it for it in sorted((ROOT / "docs").rglob("*.md")) if it.parent.name !
 # Each page of the guide, but for the questions, and each of a library begins with a program.
 WITH_MAIN = [it for it in (ROOT / "docs/guide").glob("*.md") if it.name != "faq.md"]
 WITH_MAIN += [ROOT / f"docs/{it}.md" for it in ("signals", "reactive", "entities", "sessions", "scenes", "documents")]
-USES = ["example_callers", "example_files", "example_libraries", "example_guide", "example_workers", "example_pictures"]
+USES = ["example_callers", "example_files", "example_libraries", "example_signals", "example_guide", "example_workers", "example_pictures"]
 # What the gate runs, the last one with those programs among the callers whose `main` it calls too.
 RUN = ["test_boxes", "test_libraries", "test_shared", "test_shared_workers", "bench_shared",
        "example_workers", "example_guide"]

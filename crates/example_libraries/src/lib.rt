@@ -11,6 +11,5 @@ pub mod phrases;
 pub mod prices;
 pub mod proving;
 pub mod resources;
-pub mod scopes;
 pub mod sessions;
 pub mod trees;

@@ -8,7 +8,7 @@ use crate::signal_calls::{
     alias, asked, double, end, end_hindered, first_made, is_gone, scope, second_made, sees, set,
     set_ended, signal, swap, update_ended, update_hindered,
 };
-use example_libraries::scopes::{count_up, outlived, set_source, set_through_alias};
+use example_signals::scopes::{count_up, outlived, set_source, set_through_alias};
 use generational_box::Storage;
 use signals::{Scope, Signal};
 use std::alloc::Global;

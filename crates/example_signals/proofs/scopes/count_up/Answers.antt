@@ -1,6 +1,6 @@
-use Rattle.example_libraries.proofs.{ap, as_refused_mut, err_so, inr, IsUnchanged, keeps_free, left_ticket}
-use Rattle.example_libraries.proofs.{left_twice, read_short, subst, sym, ◌∙◌}
-use Rattle.example_libraries.proofs.scopes.count_up.Goals as goal
+use Rattle.example_signals.proofs.{ap, as_refused_mut, err_so, inr, IsUnchanged, keeps_free, left_ticket}
+use Rattle.example_signals.proofs.{left_twice, read_short, subst, sym, ◌∙◌}
+use Rattle.example_signals.proofs.scopes.count_up.Goals as goal
 
 pub returns-in_err-seen-clause-refused : goal.returns-in_err-seen-clause-refused
 returns-in_err-seen-clause-refused g c =

@@ -1,6 +1,6 @@
-use Rattle.example_libraries.proofs.{arith, common_steps, ◌∙◌}
+use Rattle.example_signals.proofs.{arith, common_steps, ◌∙◌}
 use Rattle.signals.specs.Signals.{signal_pointer}
-use Rattle.example_libraries.proofs.scopes.alias_outlives.Goals as goal
+use Rattle.example_signals.proofs.scopes.alias_outlives.Goals as goal
 
 pub returns-in-Ok-end : goal.returns-in-Ok-end
 returns-in-Ok-end g c =

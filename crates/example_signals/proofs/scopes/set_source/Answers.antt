@@ -1,6 +1,6 @@
-use Rattle.example_libraries.proofs.{ap, as_refused_mut, err_so, inl, inr, IsUnchanged, left_ticket}
-use Rattle.example_libraries.proofs.{left_twice, read_short, refl, set_free, subst, sym, ◌∙◌}
-use Rattle.example_libraries.proofs.scopes.set_source.Goals as goal
+use Rattle.example_signals.proofs.{ap, as_refused_mut, err_so, inl, inr, IsUnchanged, left_ticket}
+use Rattle.example_signals.proofs.{left_twice, read_short, refl, set_free, subst, sym, ◌∙◌}
+use Rattle.example_signals.proofs.scopes.set_source.Goals as goal
 
 pub returns-in-Err-clause-refused : goal.returns-in-Err-clause-refused
 returns-in-Err-clause-refused g c =
