@@ -2,7 +2,7 @@
 
 use crate::document_acts::document_over;
 use crate::document_memory::{add_or_again, append_or_again, repeat_or_again};
-use crate::expected::{assert_same, given};
+use crate::expected::assert_same;
 use crate::fresh::{Scene, play};
 use document_tree::{Document, Place};
 use generational_box::Storage;
@@ -11,6 +11,9 @@ use std::process::Abort;
 
 /// How many children the page has, of which each is at two places of it.
 const MANY: u64 = 20;
+
+/// How often the parts are listed.
+const TRIES: u32 = 8;
 
 /// A page of many parts.
 struct ListMany;
@@ -25,21 +28,24 @@ impl Scene<u32> for ListMany {
             append_or_again(rt, &mut document, page, first);
             append_or_again(rt, &mut document, page, second);
         }
-        let listed = list_or_again(rt, &document, page);
+        let listed = list_in_tries(rt, &document, page);
         assert_same(rt, &listed, &document.part_count());
     }
 }
 
-/// How many parts are at a place or below it.
-fn list_or_again<S: Storage<u32>>(
+/// How many parts are at a place or below it, as one of the tries says: what a try asks for first may be
+/// less than what the one before lacked, so it may lack that too.
+fn list_in_tries<S: Storage<u32>>(
     rt: &impl Abort,
     document: &Document<u64, S>,
     place: Place,
 ) -> usize {
-    match document.outline_once(place) {
-        Ok(listed) => listed.len(),
-        Err(_) => given(rt, document.outline_once(place)).len(),
+    for _ in 0..TRIES {
+        if let Ok(listed) = document.outline_once(place) {
+            return listed.len();
+        }
     }
+    panic!(rt; "the parts weren't listed")
 }
 
 #[test]
