@@ -4,3 +4,4 @@ unfoldable pub use Keeping.*
 unfoldable pub use Planning.*
 pub mod Counting
 pub mod Gathering
+pub mod Flagging

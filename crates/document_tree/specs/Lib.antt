@@ -1,6 +1,7 @@
 pub mod Building
 pub mod Counting
 pub mod Documents
+pub mod Flagging
 pub mod Keeping
 pub mod Marks
 pub mod Outlines

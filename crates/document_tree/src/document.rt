@@ -389,7 +389,6 @@ impl<T, S: Storage<u32>> Document<T, S> {
     pub fn remove(&mut self, place: Place) -> Result<(), Stale>
     where
         T: Drop,
-        ensures ended { (q : Place) → IsSame place q → shown_in self.new q ≡ None }
         ensures parted { (q : Place) → IsSame place q → part_in self.new q ≡ None }
         ensures others { (q : Place) → IsOther place q → Leaves self.old q self.new }
         ensures ends { OnOk result (IsOnlyPlace self.old place →

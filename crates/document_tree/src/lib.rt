@@ -17,6 +17,7 @@ mod outlines;
 mod part;
 mod parts;
 mod place;
+mod sweeping;
 
 pub use crate::document::Document;
 pub use crate::laws::{depths_are_steps, outlines_stay_below};

@@ -1,5 +1,5 @@
 use Rattle.document_tree.proofs.Gathering.{none_in, passed_marked, passed_still, still_waits}
-use Rattle.document_tree.proofs.{arith, inl, inr, length, refl, subst, sym, ⊎_elim, ◌∙◌, ◌≡◌}
+use Rattle.document_tree.proofs.{arith, inr, length, refl, subst, sym, ⊎_elim, ◌∙◌, ◌≡◌}
 use Rattle.document_tree.specs.Marks.{IsPassed}
 use Rattle.document_tree.proofs.document.Document.next_unmarked.Goals as goal
 

@@ -1,6 +1,6 @@
 use Rattle.document_tree.proofs.Gathering.{first_listed, first_more, gathered_below, gathered_every, gathered_live, gathering_begun, gathering_more}
 use Rattle.document_tree.proofs.Gathering.{IsGathering, key_within, mark_fewer, no_marks, none_in, unmarked}
-use Rattle.document_tree.proofs.{ap, DocumentState, inl, IsDocumentKept, length, None, Place, slice_index_or, subst, sym, ℕ, [], ⊎_elim, ◌<◌, ◌∙◌, ◌∷◌, ◌≡◌, ◌≤◌}
+use Rattle.document_tree.proofs.{ap, DocumentState, inl, IsDocumentKept, length, None, Place, slice_index_or, subst, sym, ℕ, [], ⊎_elim, ◌<◌, ◌∙◌, ◌≡◌, ◌≤◌}
 use Rattle.document_tree.specs.Marks.{IsMarked, IsPassed}
 use Rattle.std.proofs.lemmas.List.{length-replicate, length-set}
 use Rattle.std.specs.List.{Contains}

@@ -1,9 +1,8 @@
-use Rattle.document_tree.proofs.{ap, arith, ended_left, ended_moves, Err}
+use Rattle.document_tree.proofs.{arith, ended_left, ended_moves, Err}
 use Rattle.document_tree.proofs.{gone_ends, id_in, kept_ended}
 use Rattle.document_tree.proofs.{led_part}
-use Rattle.document_tree.proofs.{part_at}
 use Rattle.document_tree.proofs.{pointer_in, quiet_ends, rewritten, same_id_sees}
-use Rattle.document_tree.proofs.{shown_of, simple_still}
+use Rattle.document_tree.proofs.{simple_still}
 use Rattle.document_tree.proofs.{sym, true≢false}
 use Rattle.document_tree.proofs.{◌∙◌}
 use Rattle.document_tree.proofs.document.Document.remove.Goals as goal
@@ -19,12 +18,6 @@ invariant_of-self g c =
     let moves = ended_moves (g.met.S.AnyStorage.sound _) c.pointer_to.result c.args.place c.pointer_to.ensures _ was c.in-Ok.ensures in
     kept_ended c.self.invariant (omega arith) (simple_still (g.met.S.AnyStorage.sound _) c.self.invariant.simple _ _ c.in-Ok.ensures tt tt)
     _ _ moves (c.self.invariant.small _ _ was) to.0 to.1 (rewritten (c.leave.ensures to.0 to.1))
-
-pub returns-clause-ended : goal.returns-clause-ended
-returns-clause-ended g c q same =
-    let was = rw (← c.self.view_is) at c.in_ok-key.ensures.key in
-    let moves = ended_moves (g.met.S.AnyStorage.sound _) c.pointer_to.result c.args.place c.pointer_to.ensures _ was c.in-Ok.ensures in
-    ap (λ o. shown_of (part_at c.leave.new.parts.slots o)) (sym (same_id_sees _ (pointer_in c.args.place) (pointer_in q) same) ∙ moves.is)
 
 pub returns-clause-parted : goal.returns-clause-parted
 returns-clause-parted g c q same =

@@ -1,0 +1,24 @@
+-- Flags of slots: which places are a place, or below it.
+use Rattle.std.specs.Prelude.{◌≡◌, ◌⊎◌, ℕ, Bool, List, false, is_some, length, slice_index_or, true}
+use Rattle.handles.specs.Handles.{slot_in}
+use Rattle.document_tree.specs.Documents.{DocumentState, Place, part_in}
+
+abbrev pub IsFlagged : List Bool → ℕ → Type 0
+IsFlagged flags slot = slice_index_or flags slot false ≡ true
+
+module _ {T : Type 0} where
+  -- a live place with a property has this slot
+  abbrev pub HasSlot : DocumentState T → (Place → Type 0) → ℕ → Type 0
+  HasSlot D P slot = (p : Place) × P p × (is_some (part_in D p) ≡ true) × (slot_in p ≡ slot)
+
+  -- flags are of the live places with a property
+  pub record AreFlagged (D : DocumentState T) (P : Place → Type 0) (flags : List Bool) : Type 0 where
+    pub every : (p : Place) → P p → is_some (part_in D p) ≡ true → IsFlagged flags (slot_in p)
+    pub only : (slot : ℕ) → IsFlagged flags slot → HasSlot D P slot
+
+  -- the slots of the live places with a property are flagged, beside those that were
+  pub record Flags (D : DocumentState T) (P : Place → Type 0) (old new : List Bool) : Type 0 where
+    pub every : (p : Place) → P p → is_some (part_in D p) ≡ true → IsFlagged new (slot_in p)
+    pub only : (slot : ℕ) → IsFlagged new slot → IsFlagged old slot ⊎ HasSlot D P slot
+    pub kept : (slot : ℕ) → IsFlagged old slot → IsFlagged new slot
+    pub length : length new ≡ length old
