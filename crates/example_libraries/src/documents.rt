@@ -199,3 +199,18 @@ pub fn parts_up_to<S: Storage<u32>>(
     }
     Ok(Some(places))
 }
+
+/// Removes what is neither a book nor below it. Returns whether a place is still there.
+pub fn survives<S: Storage<u32>>(
+    document: &mut Document<u64, S>,
+    book: Place,
+    place: Place,
+) -> Result<bool, PlaceError>
+    ensures below { IfOk result (λ survives. IsBelowPlace document.old book place →
+        survives ≡ is_some (shown_in document.old place)) }
+    ensures other { IfOk result (λ survives.
+        ((p : Place) → IsBelowPlace document.old book p → IsOther p place) → survives ≡ false) }
+{
+    document.retain_below(book)?;
+    Ok(document.is_alive(place))
+}
