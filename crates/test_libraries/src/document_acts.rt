@@ -9,6 +9,7 @@
 //! | `clear_gone PARENT`                           | `ok`                   |
 //! | `set PLACE CONTENT`, `update PLACE MORE`      | `ok`                   |
 //! | `exchange PLACE OTHER`, `remove PLACE`        | `ok`                   |
+//! | `retain_below PLACE`                          | `ok`                   |
 //!
 //! `update` adds to a content. The state has each place that isn't gone, in the order in which they were
 //! made, as `PLACE=CONTENT(CHILD ..)`, without the brackets if there is no child.
@@ -139,6 +140,11 @@ impl<S: Storage<u32>> Draft<S> {
         self.document.remove(place).map_err(PlaceError::from)
     }
 
+    fn retain_below(&mut self, rt: &impl Abort, words: &mut Words<'_>) -> Result<(), PlaceError> {
+        let place = self.places.named(rt, words);
+        self.document.retain_below(place)
+    }
+
     // Carries out a command that replies `ok`.
     fn answer(
         &mut self,
@@ -156,6 +162,7 @@ impl<S: Storage<u32>> Draft<S> {
             "update" => self.update(rt, words),
             "exchange" => self.exchange(rt, words),
             "remove" => self.remove(rt, words),
+            "retain_below" => self.retain_below(rt, words),
             _ => panic!(rt; "no such command"),
         }
     }

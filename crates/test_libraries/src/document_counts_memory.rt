@@ -1,4 +1,4 @@
-//! Outlines that list each part once, whichever allocation fails.
+//! Outlines that list each part once, and removal of what is below no page, whichever allocation fails.
 
 use crate::document_acts::document_over;
 use crate::document_memory::{add_or_again, append_or_again, repeat_or_again};
@@ -48,7 +48,46 @@ fn list_in_tries<S: Storage<u32>>(
     panic!(rt; "the parts weren't listed")
 }
 
+/// A page of many parts, and as many that are on no page.
+struct RetainMany;
+
+impl Scene<u32> for RetainMany {
+    fn play<R: Abort, S: Storage<u32> + Drop>(&self, rt: &R, alloc: Global, store: S) {
+        let mut document = document_over(rt, alloc, store);
+        let page = add_or_again(rt, &mut document, 0);
+        for content in 0..MANY {
+            let first = add_or_again(rt, &mut document, content);
+            let loose = add_or_again(rt, &mut document, content);
+            append_or_again(rt, &mut document, page, first);
+            append_or_again(rt, &mut document, loose, loose);
+        }
+        let kept = retain_in_tries(rt, &mut document, page);
+        assert_same(rt, &kept, &(MANY as usize + 1));
+    }
+}
+
+/// How many places are left, as one of the tries says. One that fails removes none.
+fn retain_in_tries<S: Storage<u32>>(
+    rt: &impl Abort,
+    document: &mut Document<u64, S>,
+    place: Place,
+) -> usize {
+    let all = document.len();
+    for _ in 0..TRIES {
+        if document.retain_below(place).is_ok() {
+            return document.len();
+        }
+        assert_same(rt, &document.len(), &all);
+    }
+    panic!(rt; "nothing was removed")
+}
+
 #[test]
 fn an_outline_that_lacks_memory_is_made_again(rt: HostRuntime) {
     play::<u32, ListMany>(&rt, rt.alloc(), &ListMany);
+}
+
+#[test]
+fn a_removal_that_fails_is_made_again(rt: HostRuntime) {
+    play::<u32, RetainMany>(&rt, rt.alloc(), &RetainMany);
 }

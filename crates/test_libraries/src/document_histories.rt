@@ -19,7 +19,7 @@ impl Scene<u32> for Told {
     }
 }
 
-const HISTORIES: [History; 4] = [
+const HISTORIES: [History; 5] = [
     (
         "a heading is exchanged on each page",
         &[
@@ -91,6 +91,30 @@ const HISTORIES: [History; 4] = [
             "update 2 1 -> the value made at d.rs:1:1 is gone | 0=7(0) 1=7(0)",
             "clear_gone 2 -> the value made at d.rs:1:1 is gone | 0=7(0) 1=7(0)",
             "take_child 1 0 -> took 0 | 0=7 1=7",
+        ],
+    ),
+    (
+        "what is below a place is kept",
+        &[
+            // The place 0 is a book, 1 and 2 are pages, and 3 is a heading of both.
+            "add 9 -> ok | 0=9",
+            "add 1 -> ok | 0=9 1=1",
+            "add 2 -> ok | 0=9 1=1 2=2",
+            "add 3 -> ok | 0=9 1=1 2=2 3=3",
+            "append 0 1 -> ok | 0=9(1) 1=1 2=2 3=3",
+            "append 1 3 -> ok | 0=9(1) 1=1(3) 2=2 3=3",
+            "append 2 3 -> ok | 0=9(1) 1=1(3) 2=2(3) 3=3",
+            // The second page is below itself, and the heading has a place on no page.
+            "append 2 2 -> ok | 0=9(1) 1=1(3) 2=2(3 2) 3=3",
+            "repeat 3 -> ok | 0=9(1) 1=1(3) 2=2(3 2) 3=3 4=3",
+            "retain_below 0 -> ok | 0=9(1) 1=1(3) 3=3",
+            "set 3 4 -> ok | 0=9(1) 1=1(3) 3=4",
+            // A slot of a removed child has a place that isn't below.
+            "remove 3 -> ok | 0=9(1) 1=1(3)",
+            "add 5 -> ok | 0=9(1) 1=1(3) 5=5",
+            "retain_below 3 -> the value made at d.rs:1:1 is gone | 0=9(1) 1=1(3) 5=5",
+            "retain_below 0 -> ok | 0=9(1) 1=1(3)",
+            "retain_below 1 -> ok | 1=1(3)",
         ],
     ),
 ];

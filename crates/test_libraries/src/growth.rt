@@ -113,7 +113,8 @@ fn children(rt: HostRuntime) {
     play::<u64, AddAndRemove>(&rt, rt.alloc(), &AddAndRemove);
 }
 
-/// A page with many parts below it, and its outline.
+/// A page with many parts below it, and its outline. A quarter as many are on no page, and are removed in
+/// one pass.
 struct AppendAll;
 
 impl Scene<u32> for AppendAll {
@@ -123,8 +124,14 @@ impl Scene<u32> for AppendAll {
         for content in 0..MANY {
             let part = add_or_again(rt, &mut document, content);
             append_or_again(rt, &mut document, page, part);
+            if content % 4 == 0 {
+                add_or_again(rt, &mut document, content);
+            }
         }
         given(rt, document.outline(page, 30_000));
+        assert!(rt; document.len() == 25_001);
+        given(rt, document.retain_below(page));
+        assert!(rt; document.len() == 20_001);
     }
 }
 
