@@ -1,14 +1,15 @@
--- A document of which only the places with flagged slots are left.
-use Rattle.document_tree.proofs.Gathering.{none_in}
+-- Lists of live places by flags of their slots, and a document of which only flagged places are left.
+use Rattle.document_tree.proofs.Gathering.{none_in, one_in}
 use Rattle.document_tree.proofs.Keeping.Common.{ap, arith, Bool, by_number, by_option, children_in, children_shown, created_at, DocumentState, false, GenerationalBoxId}
 use Rattle.document_tree.proofs.Keeping.Common.{GenerationalPointer, get_or-set_other, get_or-set_same, id_in, inl, inr, IsBelowPlace, IsDocumentKept, IsOther, IsSimple, is_some, IsSound}
 use Rattle.document_tree.proofs.Keeping.Common.{key_cases, Leaves, length, List, None, none-some, part_at, part_in, Place, pointer_in, refl, same_Some}
 use Rattle.document_tree.proofs.Keeping.Common.{Shown, shown_in, shown_of, slice_get, slice_get_within, slice_index_or, slot_in, Some, subst, suc, sym, true, true≢false}
-use Rattle.document_tree.proofs.Keeping.Common.{unwrap_or, value_in, WasPlaced, zero, All, Option, ℕ, [], ⊎_elim, ◌+◌, ◌<◌, ◌∙◌, ◌∷◌, ◌≡◌, ◌≢◌, ◌≤◌, ◌⊎◌}
+use Rattle.document_tree.proofs.Keeping.Common.{IsSame, unwrap_or, ◌++◌, value_in, WasPlaced, zero, All, Option, ℕ, [], ⊎_elim, ◌+◌, ◌<◌, ◌∙◌, ◌∷◌, ◌≡◌, ◌≢◌, ◌≤◌, ◌⊎◌}
 use Rattle.document_tree.proofs.Keeping.{left_by, live_shows, one_or_two}
 use Rattle.document_tree.proofs.Planning.{one_place, some_of}
-use Rattle.document_tree.specs.Flagging.{AreFlagged, Flags, IsFlagged}
-use Rattle.std.proofs.lemmas.List.Elements.{All-contains, Contains-get_or}
+use Rattle.document_tree.specs.Flagging.{AreFlagged, AreListed, Flags, IsFlagged}
+use Rattle.std.proofs.lemmas.List.Elements.{All-contains, All-nil, All-push, Contains-append_cases, Contains-append_left, Contains-get_or, Contains-push}
+use Rattle.std.proofs.lemmas.List.Quantifiers.{all_pairs_push}
 use Rattle.std.proofs.lemmas.List.{length-set}
 use Rattle.std.proofs.lemmas.Option.{get_or_from_slice_get, slice_get-get_or}
 use Rattle.std.proofs.Math.ListN.{replicate}
@@ -132,6 +133,80 @@ module _ {T : Type 0} (D : DocumentState T) where
     every = λ p is live. so.every p (back p is) live;
     only = λ slot is. let it = so.only slot is in (it.0, to it.0 it.1, it.2, it.3);
   }
+
+-- ==== a list of all live places
+
+module _ {T : Type 0} (D : DocumentState T) where
+  -- the places of the first cells are flagged
+  abbrev pub AreMet : List GenerationalPointer → List Bool → ℕ → Type 0
+  AreMet cells flags n = (k : ℕ) (b : GenerationalPointer) (q : Place) → k < n → slice_get cells k ≡ Some b
+      → id_in q ≡ b.id → is_some (shown_in D q) ≡ true → IsFlagged flags b.id.slot
+
+  pub met_more : (cells : List GenerationalPointer) (old new : List Bool) (n : ℕ) (b : GenerationalPointer)
+      → slice_get cells n ≡ Some b
+      → ((p : Place) → id_in p ≡ b.id → is_some (shown_in D p) ≡ true → IsFlagged new b.id.slot)
+      → ((slot : ℕ) → IsFlagged old slot → IsFlagged new slot) → AreMet cells old n → AreMet cells new (n + 1)
+  met_more cells old new n b here flags keeps so k c q lt at same live = ⊎_elim
+      (λ one. let is : c ≡ b = same_Some c b (sym at ∙ (ap (slice_get cells) one ∙ here)) in
+      subst (λ (x : GenerationalPointer). IsFlagged new x.id.slot) (sym is)
+      (flags q (same ∙ ap (λ (x : GenerationalPointer). x.id) is) live))
+      (λ ne. keeps c.id.slot (so k c q (omega (arith, lt, ne)) at same live))
+      (key_cases by_number k n)
+
+module _ {T : Type 0} (D : DocumentState T) (kept : IsDocumentKept D.state D.parts D.sites) where
+  pub listed_none : (flags : List Bool) → ((slot : ℕ) → IsFlagged flags slot → ⊥) → AreListed D [] flags
+  listed_none flags none = record {
+    live = All-nil (λ p. is_some (shown_in D p) ≡ true);
+    once = λ i j d lt within. absurd (omega (arith, within));
+    flagged = record {
+      every = λ p has. absurd (none_in [] p refl has);
+      only = λ slot is. absurd (none slot is);
+    };
+  }
+
+  -- with one more, whose slot wasn't flagged
+  pub listed_more : {places more : List Place} {flags : List Bool} (p : Place) (slot : ℕ) → AreListed D places flags
+      → slot_in p ≡ slot → slot < length flags → slice_index_or flags slot false ≡ false
+      → is_some (shown_in D p) ≡ true → more ≡ places ++ p ∷ [] → AreListed D more (slice_set flags slot true)
+  listed_more {places} {more} {flags} p slot so at within unset shown goes =
+      subst (λ l. AreListed D l (slice_set flags slot true)) (sym goes)
+      (subst (λ s. AreListed D (places ++ p ∷ []) (slice_set flags s true)) at (record {
+        live = All-push (λ q. is_some (shown_in D q) ≡ true) places p so.live shown;
+        once = all_pairs_push IsOther places p so.once (λ k d lt. apart _ (Contains-get_or places k d lt));
+        flagged = flagged_then D so.flagged (flags_one D p flags (subst (λ s. s < length flags) (sym at) within) (part_shown p shown))
+            (λ q has. ⊎_elim (λ on. inl on) (λ last. inr (sym (one_in p q last))) (Contains-append_cases places (p ∷ []) q has))
+            (λ q has. Contains-append_left places (p ∷ []) q has)
+            (λ q is. subst (Contains (places ++ p ∷ [])) (sym is) (Contains-push places p));
+      }))
+    where
+      part_shown : (q : Place) → is_some (shown_in D q) ≡ true → is_some (part_in D q) ≡ true
+      part_shown q is = sym (live_shows kept q) ∙ is
+
+      apart : (q : Place) → Contains places q → IsOther q p
+      apart q has same = true≢false (sym (so.flagged.every q has
+          (part_shown q (All-contains (λ r. is_some (shown_in D r) ≡ true) places q so.live has)))
+          ∙ (ap (λ (i : GenerationalBoxId). slice_index_or flags i.slot false) same
+          ∙ (ap (λ s. slice_index_or flags s false) at ∙ unset)))
+
+  -- once all cells were met, each live place is listed
+  pub listed_whole : IsSound D.state → (cells : List GenerationalPointer)
+      → ((b : GenerationalPointer) → is_some (value_in D.state b) ≡ true
+      → (k : ℕ) × (c : GenerationalPointer) × (slice_get cells k ≡ Some c) × (c.id ≡ b.id))
+      → (n : ℕ) → length cells ≤ n → (places : List Place) (flags : List Bool) → AreListed D places flags
+      → AreMet D cells flags n → (q : Place) → is_some (shown_in D q) ≡ true
+      → (p : Place) × Contains places p × IsSame p q
+  listed_whole sound cells every n whole places flags so done q shown =
+      let live = sym (live_shows kept q) ∙ shown in
+      let it = every (pointer_in q) live in
+      let at = so.flagged.only it.1.id.slot (done it.0 it.1 q
+      (omega (arith, slice_get_within cells it.0 it.1 it.2, whole)) it.2 (sym it.3) shown) in
+      let one = some_of (part_in D at.0) at.2 in
+      let two = some_of (part_in D q) live in (
+        at.0,
+        at.1,
+        one_place sound kept.simple (id_in at.0) (id_in q) one.0 two.0 one.1 two.1
+            (at.3 ∙ ap (λ (i : GenerationalBoxId). i.slot) it.3),
+      )
 
 -- what has no content refers to no part
 pub parted_of : {T : Type 0} (D : DocumentState T) → IsDocumentKept D.state D.parts D.sites → (q : Place)

@@ -22,7 +22,7 @@ unmarked (false ∷ marks) = unmarked marks + 1
 
 -- ==== what lists contain
 
-one_in : {X : Type 0} (x y : X) → Contains (x ∷ []) y → x ≡ y
+pub one_in : {X : Type 0} (x y : X) → Contains (x ∷ []) y → x ≡ y
 one_in x y (zero, within, is) = is
 one_in x y (suc k, within, is) = absurd (omega (arith, within))
 

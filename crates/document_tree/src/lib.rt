@@ -17,6 +17,7 @@ mod outlines;
 mod part;
 mod parts;
 mod place;
+mod places;
 mod sweeping;
 
 pub use crate::document::Document;
