@@ -214,3 +214,11 @@ pub fn survives<S: Storage<u32>>(
     document.retain_below(book)?;
     Ok(document.is_alive(place))
 }
+
+/// A live place, if there is one.
+pub fn some_place<S: Storage<u32>>(document: &Document<u64, S>) -> Result<Option<Place>, AllocError>
+    ensures live { IfOk result (λ found. IfSome found (λ p. is_some (shown_in document.now p) ≡ true)) }
+    ensures none { IfOk result (λ found. IfNone found ((q : Place) → shown_in document.now q ≡ None)) }
+{
+    Ok(document.places()?.first().copied())
+}
