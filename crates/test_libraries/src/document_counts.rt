@@ -91,10 +91,11 @@ impl Scene<u32> for ChildrenAreRemoved {
     }
 }
 
-/// Sees how many places and parts there are.
+/// Sees how many places and parts there are, and that so many places are listed.
 fn has<S: Storage<u32>>(rt: &impl Abort, document: &Document<u64, S>, places: usize, parts: usize) {
     assert_same(rt, &document.len(), &places);
     assert_same(rt, &document.part_count(), &parts);
+    assert_same(rt, &given(rt, document.places()).len(), &places);
 }
 
 /// Adds a last child.

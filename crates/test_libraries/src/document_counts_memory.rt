@@ -30,6 +30,7 @@ impl Scene<u32> for ListMany {
         }
         let listed = list_in_tries(rt, &document, page);
         assert_same(rt, &listed, &document.part_count());
+        assert_same(rt, &places_in_tries(rt, &document), &document.len());
     }
 }
 
@@ -46,6 +47,16 @@ fn list_in_tries<S: Storage<u32>>(
         }
     }
     panic!(rt; "the parts weren't listed")
+}
+
+/// How many places are live, as one of the tries to list them says.
+fn places_in_tries<S: Storage<u32>>(rt: &impl Abort, document: &Document<u64, S>) -> usize {
+    for _ in 0..TRIES {
+        if let Ok(places) = document.places() {
+            return places.len();
+        }
+    }
+    panic!(rt; "the places weren't listed")
 }
 
 /// A page of many parts, and as many that are on no page.
