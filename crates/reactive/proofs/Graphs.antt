@@ -3,6 +3,7 @@ pub mod Known
 unfoldable pub use Known.*
 use Rattle.reactive.proofs.Linking.{doubted_more}
 use Rattle.reactive.specs.declared.fault.Fault.TheVariants as fault
+use Rattle.reactive.specs.declared.look.Step.TheVariants as step
 use Rattle.reactive.specs.Hearing.{effect_named, named_key}
 use Rattle.std.specs.Prelude.{◌*◌, ◌-◌}
 
@@ -715,6 +716,24 @@ module _ {T R : Type 0} {plan : R → Plan T} {G : Graph T} {now : ℕ} {old new
   all_left : (path : List Frame) → AllGoOn G now old path → AllGoOn G now new path
   all_left [] all = tt
   all_left (f ∷ rest) (h, all) = (goes_left f.key f.place h, all_left rest all)
+
+module _ {T R : Type 0} {plan : R → Plan T} {G : Graph T} {now : ℕ} {old mid new : Book T R} {k : Key} where
+  -- a step to a node that is needed stays one if nothing is lost after it
+  pub needs_left : (next : Key) (place : Option ℕ) → IsAdvanced plan G now old k (step.Needs next place) mid
+      → IsLeft mid new → IsAdvanced plan G now old k (step.Needs next place) new
+  needs_left next place a left =
+      let leaves = left_leaves a.sound left in record {
+        sound = left_sound a.sound left;
+        leaves = record {
+          known = λ j v h. leaves.known j v (a.leaves.known j v h);
+          stand = λ since b le mean h. leaves.stand since b le mean (a.leaves.stand since b le mean h);
+          same = λ j. ⊎_elim
+              (λ same. inl (left.nodes j ∙ same))
+              (λ known. inr (known.0, leaves.known j known.0 known.1))
+              (a.leaves.same j);
+        };
+        stepped = (a.stepped.0, goes_left a.sound leaves k place a.stepped.1);
+      }
 
 module _ {T R : Type 0} {plan : R → Plan T} {G : Graph T} {now : ℕ} {b : Book T R}
     (s : IsSound plan G now b) where

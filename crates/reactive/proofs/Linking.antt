@@ -1,26 +1,28 @@
 -- Links and marks, by slots.
-use Rattle.std.proofs.Common.{ap, arith, Bool, true, false, get_or, if◌then◌else◌, inl, inr, length, List, None, Option, refl, set, subst}
+use Rattle.std.proofs.Common.{ap, arith, Bool, true, false, get_or, inl, inr, length, List, None, Option, refl, set, subst}
 use Rattle.std.proofs.Common.{Some, eqb-true, suc, sym, take, zero, ℕ, [], ⊎_elim, ◌++◌, ◌+◌, ◌<◌, ◌∙◌, ◌∷◌, ◌≡◌, ◌≢◌, ◌≤◌}
 use Rattle.std.proofs.lemmas.Bool.{cases_eq, true≢false}
 use Rattle.std.proofs.lemmas.List.Elements.{Contains-append_left, Contains-push_cases, All-contains, All-more, All-weaker}
 use Rattle.std.proofs.lemmas.List.{get_or-set_other, get_or-set_same, length-set, take_all}
 use Rattle.std.proofs.lemmas.List.Sums.{sum_by-le, sum_by-set}
 use Rattle.std.proofs.lemmas.Option.{none-some}
-use Rattle.std.specs.Prelude.{cond, is_some, slice_get, ◌⊎◌, ◌||◌}
+use Rattle.std.specs.Prelude.{cond, Err, is_some, Ok, OnErr, OnOk, Result, slice_get, ◌⊎◌, ◌||◌}
 use Rattle.std.specs.List.{All, Contains, filter}
-use Rattle.std.specs.Global.{Vec}
+use Rattle.std.specs.List.Retain.{RetainsInTurn}
+use Rattle.smallvec.specs.SmallVec.{SmallVec}
 use Rattle.std.specs.Vec.{vec_items}
 use Rattle.dirty_slots.specs.declared.slots.DirtySlots.{DirtySlots}
 use Rattle.dirty_slots.specs.Blocks.{AreDoubted, clean_at}
 use Rattle.reactive.specs.declared.key.Key.{Key}
 use Rattle.reactive.specs.declared.links.Edge.{Edge}
 use Rattle.reactive.specs.declared.links.Mark.{Mark}
+use Rattle.reactive.specs.declared.links.Mark.TheVariants as mark
 use Rattle.reactive.specs.declared.links.Marks.{Marks}
 use Rattle.reactive.specs.declared.links.Owner.{Owner}
 use Rattle.reactive.specs.declared.links.Web.{Web}
-use Rattle.reactive.specs.Links.{AreNumbered, edges_at, edges_by, HasForgotten, is_current, is_same, IsSlotLinked}
+use Rattle.reactive.specs.Links.{AreNumbered, edges_at, edges_by, generation_of, HasForgotten, is_current, is_same, IsSlotLinked}
 use Rattle.reactive.specs.Links.{IsRelinked, Keeps, known_at, Leans, leans_by, leans_itself, owner_at, unknown}
-use Rattle.reactive.specs.Visiting.{AreToVisit, count_known, Drops, HaveRoom, IsDropped, LeadThrough}
+use Rattle.reactive.specs.Visiting.{AreToVisit, count_known, Drops, HaveRoom, IsDropped, LeadThrough, next_of}
 
 -- ==== lists
 
@@ -72,16 +74,29 @@ module _ {X : Type 0} where
   filter_only test [] e h = h
   filter_only test (x ∷ xs) e h = cond_only (test x) x (filter test xs) xs e (λ more. filter_only test xs e more) h
 
-  pub pushed_only : (b : Bool) (old new : List X) (x e : X) → new ≡ (if b then old ++ x ∷ [] else old) → Contains new e
-      → Contains old e ⊎ (e ≡ x)
-  pushed_only true old new x e is h = ⊎_elim (λ was. inl was) (λ same. inr (sym same))
-      (Contains-push_cases old x e (subst (λ xs. Contains xs e) is h))
-  pushed_only false old new x e is h = inl (subst (λ xs. Contains xs e) is h)
+  -- what a vector has after a push
+  pub pushed_only : {A E : Type 0} (r : Result A E) (old new : SmallVec X) (x e : X)
+      → OnOk r (new.items ≡ old.items ++ x ∷ []) → OnErr r (new ≡ old) → Contains new.items e
+      → Contains old.items e ⊎ (e ≡ x)
+  pushed_only (Ok u) old new x e ok err h = ⊎_elim (λ was. inl was) (λ same. inr (sym same))
+      (Contains-push_cases old.items x e (subst (λ xs. Contains xs e) ok h))
+  pushed_only (Err f) old new x e ok err h = inl (subst (λ v. Contains v.items e) err h)
 
-  pub pushed : (b : Bool) (old new : List X) (x e : X) → new ≡ (if b then old ++ x ∷ [] else old) → Contains old e
-      → Contains new e
-  pushed true old new x e is h = subst (λ xs. Contains xs e) (sym is) (Contains-append_left old (x ∷ []) e h)
-  pushed false old new x e is h = subst (λ xs. Contains xs e) (sym is) h
+  pub pushed : {A E : Type 0} (r : Result A E) (old new : SmallVec X) (x e : X)
+      → OnOk r (new.items ≡ old.items ++ x ∷ []) → OnErr r (new ≡ old) → Contains old.items e → Contains new.items e
+  pushed (Ok u) old new x e ok err h =
+      subst (λ xs. Contains xs e) (sym ok) (Contains-append_left old.items (x ∷ []) e h)
+  pushed (Err f) old new x e ok err h = subst (λ v. Contains v.items e) (sym err) h
+
+-- a closure that changes nothing keeps what passes its test
+pub kept_by_test : {X F : Type 0} (R : F → X → Bool → F → X → Type 0) (test : X → Bool) (f : F)
+    → ((x : X) (b : Bool) (g : F) (y : X) → R f x b g y → (b ≡ test x) × (g ≡ f) × (y ≡ x))
+    → (xs ys : List X) → RetainsInTurn R f xs ys → ys ≡ filter test xs
+kept_by_test R test f says [] ys is = is
+kept_by_test R test f says (x ∷ xs) ys (b, g, y, called, zs, more, is) =
+    let (told, still, same) = says x b g y called in
+    let rest = kept_by_test R test f says xs zs (subst (λ h. RetainsInTurn R h xs zs) still more) in
+    is ∙ (λ i. cond (told i) (same i ∷ rest i) (rest i))
 
 -- ==== edges
 
@@ -94,8 +109,8 @@ stays owners edge e (inl now) = rw now refl
 stays owners edge e (inr is) = grind (arith, like_itself)
 
 -- a slot's edges were replaced
-pub put_edges : (rs : List (Vec Edge)) (to s : ℕ) (v : Vec Edge) (e : Edge) → to < length rs
-    → (Contains (edges_by (slice_get rs to)) e → Contains (vec_items v) e)
+pub put_edges : (rs : List (SmallVec Edge)) (to s : ℕ) (v : SmallVec Edge) (e : Edge) → to < length rs
+    → (Contains (edges_by (slice_get rs to)) e → Contains v.items e)
     → Contains (edges_by (slice_get rs s)) e → Contains (edges_by (slice_get (set rs to v) s)) e
 put_edges rs to s v e lt keeps h = ⊎_elim
     (λ here. subst (λ x. Contains (edges_by x) e) (sym (ap (slice_get (set rs to v)) here ∙ get_same rs to v lt))
@@ -103,8 +118,8 @@ put_edges rs to s v e lt keeps h = ⊎_elim
     (λ other. rw (get_other rs to s v other) h)
     (cases_eq s to)
 
-pub put_only : (rs : List (Vec Edge)) (to s : ℕ) (v : Vec Edge) (e edge : Edge) → to < length rs
-    → (Contains (vec_items v) e → Contains (edges_by (slice_get rs to)) e ⊎ (e ≡ edge))
+pub put_only : (rs : List (SmallVec Edge)) (to s : ℕ) (v : SmallVec Edge) (e edge : Edge) → to < length rs
+    → (Contains v.items e → Contains (edges_by (slice_get rs to)) e ⊎ (e ≡ edge))
     → Contains (edges_by (slice_get (set rs to v) s)) e
     → Contains (edges_by (slice_get rs s)) e ⊎ ((e ≡ edge) × (s ≡ to))
 put_only rs to s v e edge lt only h = ⊎_elim
@@ -331,10 +346,10 @@ known_within (m ∷ marks) (suc s) g is = let lt = known_within marks s g is in 
 
 pub count_within : (marks : List Mark) → count_known marks ≤ length marks
 count_within marks =
-    let le = sum_by-le (λ m. cond (is_some m.generation) 1 0) 1 marks (λ k d lt. one_at_most (get_or marks k d)) in
+    let le = sum_by-le (λ m. cond (is_some (generation_of m)) 1 0) 1 marks (λ k d lt. one_at_most (get_or marks k d)) in
     omega (arith, le) where
-      one_at_most : (m : Mark) → cond (is_some m.generation) 1 0 ≤ 1
-      one_at_most m = by_cases (is_some m.generation) where
+      one_at_most : (m : Mark) → cond (is_some (generation_of m)) 1 0 ≤ 1
+      one_at_most m = by_cases (is_some (generation_of m)) where
         by_cases : (b : Bool) → cond b 1 0 ≤ 1
         by_cases true = omega arith
         by_cases false = omega arith
@@ -343,10 +358,10 @@ abbrev one_if : Bool → ℕ
 one_if b = cond b 1 0
 
 pub count_less : (marks : List Mark) (s g next : ℕ) → known_at marks s ≡ Some g
-    → count_known (set marks s (record { generation = None; next = next })) + 1 ≡ count_known marks
+    → count_known (set marks s (mark.Unknown next)) + 1 ≡ count_known marks
 count_less marks s g next is =
     let lt = known_within marks s g is in
-    let sum = sum_by-set (λ m. cond (is_some m.generation) 1 0) marks s (record { generation = None; next = next }) unknown lt in
+    let sum = sum_by-set (λ m. cond (is_some (generation_of m)) 1 0) marks s (mark.Unknown next) unknown lt in
     let one : one_if (is_some (known_at marks s)) ≡ 1 = rw is refl in
     omega (arith, sum, one)
 
@@ -360,9 +375,9 @@ module _ (marks : List Mark) (s g : ℕ) (m : Mark) (is : known_at marks s ≡ S
       let same = get_or-set_other marks s x m unknown (unlisted x none) in (
         at,
         rw (length-set marks s m) lt,
-        ap (λ n. n.generation) same ∙ none,
-        subst (λ n. LeadThrough (set marks s m) n rest) (sym (ap (λ n. n.next) same))
-            (lead_set (get_or marks x unknown).next rest more),
+        ap generation_of same ∙ none,
+        subst (λ n. LeadThrough (set marks s m) n rest) (sym (ap next_of same))
+            (lead_set (next_of (get_or marks x unknown)) rest more),
       )
 
 -- ---- the readers of a slot are forgotten one by one
@@ -404,20 +419,20 @@ module _ (w : Web) (first : List Mark) (before : List ℕ) (edges : List Edge) w
 
     module _ (current : is_current (vec_items w.owners) e ≡ true) (g : ℕ)
         (had : known_at (vec_items now.known) e.slot ≡ Some g)
-        (put : vec_items new.known ≡ set (vec_items now.known) e.slot (record { generation = None; next = now.first }))
+        (put : vec_items new.known ≡ set (vec_items now.known) e.slot (mark.Unknown now.first))
         (head : new.first ≡ e.slot) (left : new.left ≡ now.left + 1) where
       within : e.slot < length (vec_items now.known)
       within = known_within (vec_items now.known) e.slot g had
 
-      mark_here : get_or (vec_items new.known) e.slot unknown ≡ record { generation = None; next = now.first }
+      mark_here : get_or (vec_items new.known) e.slot unknown ≡ mark.Unknown now.first
       mark_here = ap (λ ms. get_or ms e.slot unknown) put ∙ get_or-set_same (vec_items now.known) e.slot _ _ within
 
       none_here : known_at (vec_items new.known) e.slot ≡ None
-      none_here = ap (λ m. m.generation) mark_here
+      none_here = ap generation_of mark_here
 
       same_other : (s : ℕ) → s ≢ e.slot → known_at (vec_items new.known) s ≡ known_at (vec_items now.known) s
       same_other s ne = ap (λ ms. known_at ms s) put
-          ∙ ap (λ m. m.generation) (get_or-set_other (vec_items now.known) e.slot s _ unknown ne)
+          ∙ ap generation_of (get_or-set_other (vec_items now.known) e.slot s _ unknown ne)
 
       fewer_now : IsFewer (vec_items now.known) (vec_items new.known)
       fewer_now s v at = ⊎_elim
@@ -430,11 +445,11 @@ module _ (w : Web) (first : List Mark) (before : List ℕ) (edges : List Edge) w
         omega (arith, left, listed.0),
         (
           head,
-          rw (put, length-set (vec_items now.known) e.slot (record { generation = None; next = now.first })) within,
+          rw (put, length-set (vec_items now.known) e.slot (mark.Unknown now.first)) within,
           none_here,
-          subst (λ n. LeadThrough (vec_items new.known) n list) (sym (ap (λ m. m.next) mark_here))
+          subst (λ n. LeadThrough (vec_items new.known) n list) (sym (ap next_of mark_here))
               (subst (λ ms. LeadThrough ms now.first list) (sym put)
-              (lead_set (vec_items now.known) e.slot g (record { generation = None; next = now.first }) had now.first list listed.1)),
+              (lead_set (vec_items now.known) e.slot g (mark.Unknown now.first) had now.first list listed.1)),
         ),
       )
 
@@ -489,7 +504,7 @@ dropped_room w e now new (inl (same, none)) room = rw same (room, omega arith)
 dropped_room w e now new (inr (current, (g, had, put, head, left))) room =
     let one = ap count_known put in
     let less = count_less (vec_items now.known) e.slot g now.first had in
-    let long = ap length put ∙ length-set (vec_items now.known) e.slot (record { generation = None; next = now.first }) in
+    let long = ap length put ∙ length-set (vec_items now.known) e.slot (mark.Unknown now.first) in
     (omega (arith, one, less, long, left, room), omega (arith, one, less, left))
 
 pub dropped_all : (w : Web) (first now : List Mark) (before list : List ℕ) (slot i : ℕ) → length (edges_at w slot) ≤ i
@@ -600,14 +615,14 @@ waits_done w first now list slot empty h = record {
 -- one is taken from the list
 pub taken : (m : Marks) (list : List ℕ) → AreToVisit m list → 0 < m.left
     → (rest : List ℕ) × (list ≡ m.first ∷ rest) × (m.first < length (vec_items m.known))
-    × (m.left ≡ length rest + 1) × LeadThrough (vec_items m.known) (get_or (vec_items m.known) m.first unknown).next rest
+    × (m.left ≡ length rest + 1) × LeadThrough (vec_items m.known) (next_of (get_or (vec_items m.known) m.first unknown)) rest
 taken m [] (len, lead) some = absurd (omega (arith, len, some))
 taken m (s ∷ rest) (len, lead) some = (
   rest,
   (λ i. sym lead.0 i ∷ rest),
   rw lead.0 lead.1,
   omega (arith, len),
-  subst (λ x. LeadThrough (vec_items m.known) (get_or (vec_items m.known) x unknown).next rest) (sym lead.0) lead.3,
+  subst (λ x. LeadThrough (vec_items m.known) (next_of (get_or (vec_items m.known) x unknown)) rest) (sym lead.0) lead.3,
 )
 
 pub known_past : (marks : List Mark) (s : ℕ) → length marks ≤ s → known_at marks s ≡ None

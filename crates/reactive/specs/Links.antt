@@ -1,11 +1,12 @@
 -- Which nodes read which, and of which memos it is known what they mean, by slots.
 use Rattle.std.specs.Prelude.{◌≡◌, ◌≢◌, ◌<◌, ℕ, Bool, false, ◌&&◌, nat_eq, List, [], Option, None, Some, get_or, slice_get}
 use Rattle.std.specs.List.{Contains}
-use Rattle.std.specs.Global.{Vec}
+use Rattle.smallvec.specs.SmallVec.{SmallVec}
 use Rattle.std.specs.Vec.{vec_items}
 use Rattle.reactive.specs.declared.key.Key.{Key}
 use Rattle.reactive.specs.declared.links.Edge.{Edge}
 use Rattle.reactive.specs.declared.links.Mark.{Mark}
+use Rattle.reactive.specs.declared.links.Mark.TheVariants as mark
 use Rattle.reactive.specs.declared.links.Owner.{Owner}
 use Rattle.reactive.specs.declared.links.Web.{Web}
 
@@ -18,9 +19,9 @@ nobody = record { generation = None; number = 0 }
 abbrev pub owner_at : List Owner → ℕ → Owner
 owner_at owners s = get_or owners s nobody
 
-abbrev pub edges_by : Option (Vec Edge) → List Edge
+abbrev pub edges_by : Option (SmallVec Edge) → List Edge
 edges_by None = []
-edges_by (Some edges) = vec_items edges
+edges_by (Some edges) = edges.items
 
 -- the edges of a slot's readers
 abbrev pub edges_at : Web → ℕ → List Edge
@@ -69,11 +70,15 @@ pub record IsRelinked (old : Web) (k : Key) (reads : List Key) (new : Web) : Typ
 
 -- of a slot nothing is known
 abbrev pub unknown : Mark
-unknown = record { generation = None; next = 0 }
+unknown = mark.Unknown 0
+
+abbrev pub generation_of : Mark → Option ℕ
+generation_of (mark.Known g) = Some g
+generation_of (mark.Unknown next) = None
 
 -- the generation of a slot's memo, if it is known what that means
 abbrev pub known_at : List Mark → ℕ → Option ℕ
-known_at known s = (get_or known s unknown).generation
+known_at known s = generation_of (get_or known s unknown)
 
 abbrev pub holds : Option ℕ → ℕ → Bool
 holds None g = false

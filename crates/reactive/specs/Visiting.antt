@@ -4,13 +4,19 @@ use Rattle.std.specs.List.{Contains, count_by}
 use Rattle.std.specs.Vec.{vec_items}
 use Rattle.reactive.specs.declared.links.Edge.{Edge}
 use Rattle.reactive.specs.declared.links.Mark.{Mark}
+use Rattle.reactive.specs.declared.links.Mark.TheVariants as mark
 use Rattle.reactive.specs.declared.links.Marks.{Marks}
 use Rattle.reactive.specs.declared.links.Web.{Web}
-use Rattle.reactive.specs.Links.{IsSlotLinked, is_current, known_at, unknown}
+use Rattle.reactive.specs.Links.{IsSlotLinked, generation_of, is_current, known_at, unknown}
 
 -- of how many slots something is known
 abbrev pub count_known : List Mark → ℕ
-count_known marks = count_by (λ m. is_some m.generation) marks
+count_known marks = count_by (λ m. is_some (generation_of m)) marks
+
+-- the slot that is visited after one of which nothing is known
+abbrev pub next_of : Mark → ℕ
+next_of (mark.Known g) = 0
+next_of (mark.Unknown next) = next
 
 -- those of which something is known and those that are to be visited are no more than there are slots
 abbrev pub HaveRoom : Marks → Type 0
@@ -20,7 +26,7 @@ HaveRoom m = count_known (vec_items m.known) + m.left ≤ length (vec_items m.kn
 abbrev pub LeadThrough : List Mark → ℕ → List ℕ → Type 0
 LeadThrough marks first [] = Unit {0}
 LeadThrough marks first (s ∷ rest) = (first ≡ s) × (s < length marks) × (known_at marks s ≡ None)
-    × LeadThrough marks (get_or marks s unknown).next rest
+    × LeadThrough marks (next_of (get_or marks s unknown)) rest
 
 -- these are to be visited
 abbrev pub AreToVisit : Marks → List ℕ → Type 0
@@ -31,7 +37,7 @@ AreToVisit m list = (m.left ≡ length list) × LeadThrough (vec_items m.known) 
 abbrev pub IsDropped : Web → Edge → Marks → Marks → Type 0
 IsDropped w e old new = ((new ≡ old) × (is_current (vec_items w.owners) e ≡ true → known_at (vec_items old.known) e.slot ≡ None))
     ⊎ ((is_current (vec_items w.owners) e ≡ true) × ((g : ℕ) × (known_at (vec_items old.known) e.slot ≡ Some g)
-    × (vec_items new.known ≡ slice_set (vec_items old.known) e.slot (record { generation = None; next = old.first }))
+    × (vec_items new.known ≡ slice_set (vec_items old.known) e.slot (mark.Unknown old.first))
     × (new.first ≡ e.slot) × (new.left ≡ old.left + 1)))
 
 -- From one state to another the readers of a slot were forgotten, and are to be visited with those before.

@@ -1,19 +1,20 @@
 //! Which nodes read which, and which memos are known.
 
-ghost use Rattle.std.specs.Prelude.{◌≡◌, ◌≢◌, ◌<◌, ◌≤◌, ◌+◌, ◌⊎◌, ◌++◌, ◌∷◌, [], ℕ, List, Option, None, Some, Bool, true, false, length, IsTrue, ◌||◌};
+ghost use Rattle.std.specs.Prelude.{◌≡◌, ◌≢◌, ◌<◌, ◌≤◌, ◌+◌, ◌⊎◌, ◌++◌, ◌∷◌, [], ℕ, List, Option, None, Some, Bool, true, false, length, is_some, IsTrue, ◌||◌};
 ghost use Rattle.std.specs.List.{Contains, filter};
 ghost use Rattle.dirty_slots.specs.Blocks.{AreDoubted, clean_at};
 ghost use Rattle.reactive.specs.declared.key.Key.{Key};
 ghost use Rattle.reactive.specs.declared.links.Edge.{Edge};
-ghost use Rattle.reactive.specs.Links.{HasForgotten, IsRelinked, Keeps, Leans, edges_at, is_current, is_same, known_at, knows, owner_at};
-ghost use Rattle.reactive.specs.Visiting.{AreToVisit, Drops, HaveRoom, IsDropped, count_known};
+ghost use Rattle.reactive.specs.Links.{HasForgotten, IsRelinked, Keeps, Leans, edges_at, generation_of, is_current, is_same, known_at, knows, owner_at};
+ghost use Rattle.reactive.specs.Visiting.{AreToVisit, Drops, HaveRoom, IsDropped, count_known, next_of};
 
 use crate::key::Key;
 use dirty_slots::DirtySlots;
+use smallvec::SmallVec;
 use std::alloc::Global;
 
 /// A node that reads another: its slot, and the number of its links at that time.
-#[derive(Clone, Copy)]
+#[derive(Clone, Copy, Default)]
 pub(crate) struct Edge {
     pub(crate) slot: usize,
     pub(crate) number: u64,
@@ -31,17 +32,19 @@ pub(crate) struct Owner {
 pub(crate) struct Web {
     pub(crate) alloc: Global,
     pub(crate) owners: Vec<Owner>,
-    pub(crate) readers: Vec<Vec<Edge>>,
+    pub(crate) readers: Vec<SmallVec<Edge, 1>>,
     // the number of the next links: no links have had it, or a higher one
     pub(crate) number: u64,
 }
 
-/// The generation of a slot's memo, if it is known what that means.
+/// What is known of a slot's memo.
 #[derive(Clone, Copy)]
-pub(crate) struct Mark {
-    pub(crate) generation: Option<u64>,
-    // the slot that is visited after this one, if both are to be
-    pub(crate) next: usize,
+pub(crate) enum Mark {
+    // what the memo of this generation means
+    Known(u64),
+    // nothing. The slot that is visited after this one, if both are to be; or the index on a path that was
+    // recorded last
+    Unknown(usize),
 }
 
 /// Each slot's mark. The slots that are to be visited are a linked list through the marks.
@@ -71,7 +74,7 @@ fn is_current(owners: &Vec<Owner>, edge: Edge) -> bool
 }
 
 // Adds a reader. False if memory runs out.
-fn add(owners: &Vec<Owner>, edges: &mut Vec<Edge>, edge: Edge) -> bool
+fn add(owners: &Vec<Owner>, edges: &mut SmallVec<Edge, 1>, edge: Edge) -> bool
     ensures kept { (e : Edge) → Contains edges.old.items e →
         (is_current owners.now.items e ≡ true) ⊎ (e ≡ edge) → Contains edges.new.items e }
     ensures only { (e : Edge) → Contains edges.new.items e → Contains edges.old.items e ⊎ (e ≡ edge) }
@@ -81,7 +84,7 @@ fn add(owners: &Vec<Owner>, edges: &mut Vec<Edge>, edge: Edge) -> bool
 }
 
 // Reserves capacity for a reader. Old ones are removed before the list grows. False if memory runs out.
-fn make_room(owners: &Vec<Owner>, edges: &mut Vec<Edge>, edge: Edge) -> bool
+fn make_room(owners: &Vec<Owner>, edges: &mut SmallVec<Edge, 1>, edge: Edge) -> bool
     ensures kept { (e : Edge) → Contains edges.old.items e →
         (is_current owners.now.items e ≡ true) ⊎ (e ≡ edge) → Contains edges.new.items e }
     ensures only { (e : Edge) → Contains edges.new.items e → Contains edges.old.items e }
@@ -95,11 +98,11 @@ fn make_room(owners: &Vec<Owner>, edges: &mut Vec<Edge>, edge: Edge) -> bool
 }
 
 // Removes old edges, except for those that are the same as this one.
-fn clean(owners: &Vec<Owner>, edges: &mut Vec<Edge>, edge: Edge)
+fn clean(owners: &Vec<Owner>, edges: &mut SmallVec<Edge, 1>, edge: Edge)
     ensures { edges.new.items
         ≡ filter (λ e. is_current owners.now.items e || is_same e edge) edges.old.items }
 {
-    edges.retain(|old: &Edge| is_current(owners, *old) || is_same(*old, edge));
+    edges.retain(|old: &mut Edge| is_current(owners, *old) || is_same(*old, edge));
 }
 
 // Whether two edges are the same.
@@ -138,7 +141,7 @@ impl Web {
         ensures room { IsTrue result → slot < length self.new.readers.items }
     {
         while self.readers.len() <= slot {
-            if self.readers.push(Vec::new(self.alloc)).is_err() {
+            if self.readers.push(SmallVec::new(self.alloc)).is_err() {
                 return false;
             }
         }
@@ -189,18 +192,35 @@ impl Web {
     }
 }
 
+impl Mark {
+    // Whether anything is known.
+    fn is_known(self) -> bool
+        ensures { result ≡ is_some (generation_of self) }
+    {
+        match self {
+            Mark::Known(_) => true,
+            Mark::Unknown(_) => false,
+        }
+    }
+
+    // The slot that is visited after this one, or the index on a path.
+    fn next(self) -> usize
+        ensures { result ≡ next_of self }
+    {
+        match self {
+            Mark::Known(_) => 0,
+            Mark::Unknown(next) => next,
+        }
+    }
+}
+
 impl Marks {
     // Whether it is known what a memo means.
     pub(crate) fn knows(&self, key: Key) -> bool
         ensures { result ≡ knows (known_at self.now.known.items) key }
     {
         match self.known.get(key.id.slot) {
-            Some(
-                Mark {
-                    generation: Some(generation),
-                    next: _,
-                },
-            ) => *generation == key.id.generation,
+            Some(Mark::Known(generation)) => *generation == key.id.generation,
             _ => false,
         }
     }
@@ -217,13 +237,10 @@ impl Marks {
         if edge.slot >= self.known.len() {
             return;
         }
-        if self.known[edge.slot].generation.is_none() {
+        if !self.known[edge.slot].is_known() {
             return;
         }
-        self.known[edge.slot] = Mark {
-            generation: None,
-            next: self.first,
-        };
+        self.known[edge.slot] = Mark::Unknown(self.first);
         self.first = edge.slot;
         self.left += 1;
     }
@@ -240,7 +257,7 @@ impl Marks {
         let Some(edges) = web.readers.get(slot) else {
             return;
         };
-        for edge in edges.iter() {
+        for edge in edges.as_slice() {
             self.drop_reader(web, *edge);
         }
     }
@@ -255,7 +272,7 @@ impl Marks {
     {
         self.left = 0;
         if slot < self.known.len() {
-            self.known[slot].generation = None;
+            self.known[slot] = Mark::Unknown(0);
         }
     }
 
@@ -274,7 +291,7 @@ impl Marks {
         self.drop_readers(web, slot);
         while self.left > 0 {
             let next = self.first;
-            self.first = self.known[next].next;
+            self.first = self.known[next].next();
             self.left -= 1;
             dirty.doubt(next);
             self.drop_readers(web, next);
@@ -289,16 +306,31 @@ impl Marks {
         ensures free { IsTrue result → known_at self.new.known.items slot ≡ None }
     {
         if slot < self.known.len() {
-            return self.known[slot].generation.is_none();
+            return !self.known[slot].is_known();
         }
         let Some(room) = slot.checked_add(1) else {
             return false;
         };
-        let unknown = Mark {
-            generation: None,
-            next: 0,
-        };
-        self.known.resize(room, unknown).is_ok()
+        self.known.resize(room, Mark::Unknown(0)).is_ok()
+    }
+
+    // Records a slot's index on a path, unless something is known of it. False if memory runs out.
+    pub(crate) fn note(&mut self, slot: usize, place: usize) -> bool
+        ensures { (s : ℕ) → known_at self.new.known.items s ≡ known_at self.old.known.items s }
+    {
+        if !self.reserve(slot) {
+            return false;
+        }
+        self.known[slot] = Mark::Unknown(place);
+        true
+    }
+
+    // The index that was recorded for a slot. It is only a hint: the slot may have been visited since.
+    pub(crate) fn noted(&self, slot: usize) -> usize {
+        match self.known.get(slot) {
+            Some(mark) => mark.next(),
+            None => 0,
+        }
     }
 
     // Records that it is known what a memo means. There must be capacity for it.
@@ -308,6 +340,6 @@ impl Marks {
         ensures others { (s : ℕ) → s ≢ key.id.slot →
             known_at self.new.known.items s ≡ known_at self.old.known.items s }
     {
-        self.known[key.id.slot].generation = Some(key.id.generation);
+        self.known[key.id.slot] = Mark::Known(key.id.generation);
     }
 }

@@ -54,8 +54,6 @@ pub struct Nodes<T, R, S: Storage<Node<T, R>>> {
     pub(crate) revision: u64,
     // how often a rule has computed a value
     pub(crate) runs: u64,
-    // each slot's index on a path at which its node was: a hint, to find cycles at once
-    pub(crate) places: Vec<usize>,
     pub(crate) links: Links,
     pub(crate) marker: PhantomData<(T, R)>,
 }
@@ -305,7 +303,8 @@ impl<T: Value + Drop, R: Rule<T>, S: Storage<Node<T, R>>> Nodes<T, R, S> {
         }
     }
 
-    // Checks a node.
+    // Checks a node. Without a place its rule must be run, if it has one: then it isn't asked whether it is
+    // known.
     fn judge(&self, key: Key, node: &Node<T, R>, place: Option<usize>) -> Look
         ensures looked { (G : Graph T) →
             IsSound R.plan G self.now.revision (book (S.state self.now.store) self.now.links) →
@@ -313,10 +312,10 @@ impl<T: Value + Drop, R: Rule<T>, S: Storage<Node<T, R>>> Nodes<T, R, S> {
             GoesOn G self.now.revision (book (S.state self.now.store) self.now.links) key place →
             Looked G self.now.revision (book (S.state self.now.store) self.now.links) key result }
         ensures known { is_some (known_by (knows (known_at self.now.links.marks.known.items) key) (Some node.now)) ≡ true →
-            result ≡ look.Known }
+            place ≢ None → result ≡ look.Known }
         ensures owned { result ≡ look.Right → Owns self.now.links.web key }
     {
-        if node.is_known(self.links.marks.knows(key)) {
+        if node.is_known(false) {
             return Look::Known;
         }
         if node.rule.is_none() {
@@ -325,6 +324,9 @@ impl<T: Value + Drop, R: Rule<T>, S: Storage<Node<T, R>>> Nodes<T, R, S> {
         let Some(from) = place else {
             return Look::Stale;
         };
+        if node.is_known(self.links.marks.knows(key)) {
+            return Look::Known;
+        }
         if !self.is_kept(key, node) {
             return Look::Stale;
         }
@@ -343,7 +345,7 @@ impl<T: Value + Drop, R: Rule<T>, S: Storage<Node<T, R>>> Nodes<T, R, S> {
             GoesOn G self.now.revision (book (S.state self.now.store) self.now.links) key place →
             Looked G self.now.revision (book (S.state self.now.store) self.now.links) key result }
         ensures known { is_some (known_of (book (S.state self.now.store) self.now.links) key) ≡ true →
-            result ≡ look.Known }
+            place ≢ None → result ≡ look.Known }
         ensures owned { result ≡ look.Right → Owns self.now.links.web key }
     {
         match node_of(&self.store, key) {
@@ -398,7 +400,7 @@ impl<T: Value + Drop, R: Rule<T>, S: Storage<Node<T, R>>> Nodes<T, R, S> {
             (book (S.state self.new.store) self.new.links) }
         ensures kinds { kinds_of (nodes_in (S.state self.new.store)) ≡ kinds_of (nodes_in (S.state self.old.store)) }
         ensures known { is_some (known_of (book (S.state self.old.store) self.old.links) key) ≡ true →
-            result ≡ step.Settled }
+            place ≢ None → result ≡ step.Settled }
     {
         match self.look(key, place) {
             Look::Known => Step::Settled,
@@ -416,45 +418,29 @@ impl<T: Value + Drop, R: Rule<T>, S: Storage<Node<T, R>>> Nodes<T, R, S> {
         }
     }
 
-    // Records a node's index on a path. It is only a hint.
+    // Records a node's index on a path, to find cycles at once. False if memory runs out.
     fn note(&mut self, key: Key, place: usize) -> bool
         ensures store { self.new.store ≡ self.old.store }
-        ensures links { self.new.links ≡ self.old.links }
+        ensures left { IsLeft (book (S.state self.old.store) self.old.links) (book (S.state self.new.store) self.new.links) }
         ensures revision { self.new.revision ≡ self.old.revision }
     {
-        let slot = key.id.slot;
-        if self.places.len() <= slot {
-            let Some(room) = slot.checked_add(1) else {
-                return false;
-            };
-            if self.places.resize(room, 0).is_err() {
-                return false;
-            }
-        }
-        match self.places.get_mut(slot) {
-            Some(noted) => {
-                *noted = place;
-                true
-            }
-            None => false,
-        }
+        self.links.marks.note(key.id.slot, place)
     }
 
     // Whether a node is recorded to be on a path, and is.
     fn is_on(&self, path: &Vec<Frame>, key: Key) -> bool
         ensures { IsTrue result → IsOn path.now.items key }
     {
-        let Some(place) = self.places.get(key.id.slot) else {
-            return false;
-        };
-        match path.get(*place) {
+        let place = self.links.marks.noted(key.id.slot);
+        match path.get(place) {
             Some(frame) => frame.key == key,
             None => false,
         }
     }
 
     // Makes one step: back to the node that needs this one, or on to one that it needs. None if the
-    // first node is known.
+    // first node is known. The node that needs one whose value has changed has no place any more: its rule is
+    // run at once, and the reads after that one aren't checked first, which it may not read again.
     fn go_on(
         &mut self,
         path: &mut Vec<Frame>,
@@ -477,7 +463,7 @@ impl<T: Value + Drop, R: Rule<T>, S: Storage<Node<T, R>>> Nodes<T, R, S> {
         ensures lasts { (G : Graph T) (start : Key) →
             IsOnTheWay R.plan G self.old.revision (book (S.state self.old.store) self.old.links) start path.old.items top → Lasts (book (S.state self.old.store) self.old.links) (book (S.state self.new.store) self.new.links) }
         ensures known { is_some (known_of (book (S.state self.old.store) self.old.links) top.key) ≡ true →
-            path.old.items ≡ [] → result ≡ Ok None }
+            top.place ≢ None → path.old.items ≡ [] → result ≡ Ok None }
     {
         match self.advance(top.key, top.place) {
             Step::Settled => match path.pop() {

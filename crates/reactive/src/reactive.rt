@@ -106,7 +106,6 @@ impl<T: Value + Drop, R: Rule<T>, S: Storage<Node<T, R>>> Reactive<T, R, S> {
                 store,
                 revision: 1,
                 runs: 0,
-                places: Vec::new(alloc),
                 links: Links { marks, web },
                 marker: PhantomData,
             },

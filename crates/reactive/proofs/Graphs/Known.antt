@@ -59,6 +59,12 @@ module _ {T R : Type 0} where
   known_node true n v is = grind arith
   known_node false n v is = grind arith
 
+  -- what is known though nothing is sure is known
+  pub known_anyway : (sure : Bool) (n : Node T R) → is_some (known_by false (Some n)) ≡ true
+      → is_some (known_by sure (Some n)) ≡ true
+  known_anyway true n is = grind arith
+  known_anyway false n is = is
+
   pub known_shows : (sure : Bool) (o : Option (Node T R)) (v : T) → known_by sure o ≡ Some v
       → (n : Node T R) × (o ≡ Some n) × IsNodeKnown sure n v
   known_shows sure None v is = cc

@@ -1,5 +1,6 @@
-use Rattle.reactive.proofs.{filter_same, rules}
+use Rattle.reactive.proofs.Linking.{kept_by_test}
+use Rattle.reactive.proofs.{rules}
 use Rattle.reactive.proofs.links.clean.Goals as goal
 
 pub returns : goal.returns
-returns c = filter_same _ _ _ (λ x b f' k. search rules) _ _ c.retain.ensures.filtered
+returns c = kept_by_test _ _ _ (λ x b f' y k. search rules) _ _ c.retain.ensures.filtered

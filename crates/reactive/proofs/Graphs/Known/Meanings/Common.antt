@@ -63,7 +63,7 @@ pub use Rattle.std.proofs.lemmas.Bool.Decides.{eqb_tells}
 pub use Rattle.std.specs.Prelude.{nat_eq}
 pub use Rattle.std.proofs.lemmas.List.{append-nil, get_or-set_other, get_or-set_same, map_push, nil_from_length, set-get_or, take_more}
 pub use Rattle.std.proofs.lemmas.Option.{none-some, same_Some, slice_get-get_or}
-pub use Rattle.std.proofs.{lemmas.Fn.filter_same, Math.Seq.take-append_seam}
+pub use Rattle.std.proofs.{Math.Seq.take-append_seam}
 pub use Rattle.std.specs.Prelude.{IfErr, IfNone, IfOk, IfSome, is_some, map as list_map, OnErr}
 pub use Rattle.std.specs.Prelude.{OnOk, option_copied, slice_get, slice_index_or, ◌⊎◌}
 pub use Rattle.std.specs.{Borrow.Bor, Global.Vec, Vec.vec_items}

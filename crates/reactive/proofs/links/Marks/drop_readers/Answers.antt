@@ -30,8 +30,8 @@ returns-clause-dropped c = λ before listed.
     let look = c.in-Some.ensures.lookup in
     let at : slice_get c.deref.result.now c.args.slot ≡ Some c.in-Some.edges.now =
     slice_get_read c.deref.result.now _ c.args.slot c.in-Some.edges.now refl look.3.0 look.1 in
-    let edges : c.deref-edge-items.result.now ≡ edges_at c.args.web.now c.args.slot =
-    c.deref-edge-items.ensures.value ∙ (ap edges_by (sym at) ∙ ap (λ xs. edges_by (slice_get xs c.args.slot)) c.deref.ensures.value) in
+    let edges : c.as_slice-edge-items.result.now ≡ edges_at c.args.web.now c.args.slot =
+    c.as_slice-edge-items.ensures ∙ (ap edges_by (sym at) ∙ ap (λ xs. edges_by (slice_get xs c.args.slot)) c.deref.ensures.value) in
     let h = (rw edges at c.loop-edge.invariant.2) before listed in (
       h.0,
       h.1,

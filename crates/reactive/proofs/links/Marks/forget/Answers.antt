@@ -1,7 +1,7 @@
 use Rattle.reactive.proofs.Linking.{any_default, begin_waits, one_dropped, taken, Waits, doubted_more, trust_begin, trust_done, trust_more, Trusts, waits_done}
-use Rattle.reactive.proofs.{arith, get_or, rules, subst, sym, [], ◌∙◌, ◌≡◌}
+use Rattle.reactive.proofs.{ap, arith, get_or, rules, subst, sym, [], ◌∙◌, ◌≡◌}
 use Rattle.reactive.specs.Links.{unknown}
-use Rattle.reactive.specs.Visiting.{LeadThrough}
+use Rattle.reactive.specs.Visiting.{LeadThrough, next_of}
 use Rattle.reactive.proofs.links.Marks.forget.Goals as goal
 
 pub loop-self-init : goal.loop-self-init
@@ -34,7 +34,7 @@ loop-self-preserved c =
     any_default known c.loop-self.self.first unknown c.index.result.now t.2 ∙ sym c.index.ensures in
     let left = t.3 in
     let d = c.drop_readers-in-loop-self.ensures.dropped t.0
-    (omega (arith, left), subst (λ m. LeadThrough known m.next t.0) mark t.4) in (
+    (omega (arith, left), subst (λ next. LeadThrough known next t.0) (ap next_of mark ∙ sym c.next-self.ensures) t.4) in (
       c.drop_readers-in-loop-self.ensures.room,
       (
         d.0,

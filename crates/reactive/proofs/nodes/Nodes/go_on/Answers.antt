@@ -1,4 +1,4 @@
-use Rattle.reactive.proofs.{ap, arith, arrives, gave_up, inl, kind_by, refl, rules, sym, ◌∙◌}
+use Rattle.reactive.proofs.{ap, arith, arrives, gave_up, inl, kind_by, needs_left, refl, rules, sym, ◌∙◌}
 use Rattle.reactive.proofs.{way_back, way_blames, way_known, way_needs, way_on, way_round}
 use Rattle.generational_errors.specs.declared.error.StoreError.TheVariants.{OutOfMemory}
 use Rattle.reactive.specs.declared.fault.Fault.TheVariants as fault
@@ -33,7 +33,7 @@ returns-in-None-clause-went g c = λ G start o.
 
 pub returns-then-is_on-clause-went : goal.returns-then-is_on-clause-went
 returns-then-is_on-clause-went g c = λ G start o.
-    rw (c.note.ensures.store, c.note.ensures.links) (c.in-Needs.ensures.advanced G o.sound o.last).sound
+    (needs_left c.in-Needs.next c.in-Needs.place (c.in-Needs.ensures.advanced G o.sound o.last) c.note.ensures.left).sound
 
 pub returns-then-is_on-clause-blamed : goal.returns-then-is_on-clause-blamed
 returns-then-is_on-clause-blamed g c = λ G start o kept.
@@ -43,8 +43,8 @@ returns-then-is_on-clause-blamed g c = λ G start o kept.
 
 pub returns-else-is_on-clause-went : goal.returns-else-is_on-clause-went
 returns-else-is_on-clause-went g c = λ G start o.
-    let a = c.in-Needs.ensures.advanced G o.sound o.last in
-    rw (c.note.ensures.store, c.note.ensures.links, c.in-Ok.ensures.items)
+    let a = needs_left c.in-Needs.next c.in-Needs.place (c.in-Needs.ensures.advanced G o.sound o.last) c.note.ensures.left in
+    rw c.in-Ok.ensures.items
     (way_on o a c.in-Needs.next c.in-Needs.place a.stepped.0 a.stepped.1)
 
 pub returns-in-Gone-clause-went : goal.returns-in-Gone-clause-went
@@ -81,15 +81,15 @@ pub returns-in-Some-kept_fault-clause-lasts : goal.returns-in-Some-kept_fault-cl
 returns-in-Some-kept_fault-clause-lasts g c = λ G start o. (c.in-Needs.ensures.advanced G o.sound o.last).leaves.known
 
 pub returns-then-not-note-clause-went : goal.returns-then-not-note-clause-went
-returns-then-not-note-clause-went g c = λ G start o. rw (c.note.ensures.store, c.note.ensures.links)
-    (c.in-Needs.ensures.advanced G o.sound o.last).sound
+returns-then-not-note-clause-went g c = λ G start o.
+    (needs_left c.in-Needs.next c.in-Needs.place (c.in-Needs.ensures.advanced G o.sound o.last) c.note.ensures.left).sound
 
 pub returns-then-not-note-clause-blamed : goal.returns-then-not-note-clause-blamed
 returns-then-not-note-clause-blamed g c = λ G start o kept. way_blames o _ (fault.Store OutOfMemory) (inl refl)
 
 pub returns-in-Err-clause-went : goal.returns-in-Err-clause-went
-returns-in-Err-clause-went g c = λ G start o. rw (c.note.ensures.store, c.note.ensures.links)
-    (c.in-Needs.ensures.advanced G o.sound o.last).sound
+returns-in-Err-clause-went g c = λ G start o.
+    (needs_left c.in-Needs.next c.in-Needs.place (c.in-Needs.ensures.advanced G o.sound o.last) c.note.ensures.left).sound
 
 pub returns-in-Err-clause-blamed : goal.returns-in-Err-clause-blamed
 returns-in-Err-clause-blamed g c = λ G start o kept.
@@ -114,17 +114,17 @@ pub returns-in-Full-clause-lasts : goal.returns-in-Full-clause-lasts
 returns-in-Full-clause-lasts g c = λ G start o. (c.in-Full.ensures.advanced G o.sound o.last).leaves.known
 
 pub returns-then-not-note-clause-lasts : goal.returns-then-not-note-clause-lasts
-returns-then-not-note-clause-lasts g c = λ G start o. rw (c.note.ensures.store, c.note.ensures.links)
-    (c.in-Needs.ensures.advanced G o.sound o.last).leaves.known
+returns-then-not-note-clause-lasts g c = λ G start o.
+    (needs_left c.in-Needs.next c.in-Needs.place (c.in-Needs.ensures.advanced G o.sound o.last) c.note.ensures.left).leaves.known
 
 pub returns-in-Err-clause-lasts : goal.returns-in-Err-clause-lasts
-returns-in-Err-clause-lasts g c = λ G start o. rw (c.note.ensures.store, c.note.ensures.links)
-    (c.in-Needs.ensures.advanced G o.sound o.last).leaves.known
+returns-in-Err-clause-lasts g c = λ G start o.
+    (needs_left c.in-Needs.next c.in-Needs.place (c.in-Needs.ensures.advanced G o.sound o.last) c.note.ensures.left).leaves.known
 
 pub returns-then-is_on-clause-lasts : goal.returns-then-is_on-clause-lasts
-returns-then-is_on-clause-lasts g c = λ G start o. rw (c.note.ensures.store, c.note.ensures.links)
-    (c.in-Needs.ensures.advanced G o.sound o.last).leaves.known
+returns-then-is_on-clause-lasts g c = λ G start o.
+    (needs_left c.in-Needs.next c.in-Needs.place (c.in-Needs.ensures.advanced G o.sound o.last) c.note.ensures.left).leaves.known
 
 pub returns-else-is_on-clause-lasts : goal.returns-else-is_on-clause-lasts
-returns-else-is_on-clause-lasts g c = λ G start o. rw (c.note.ensures.store, c.note.ensures.links)
-    (c.in-Needs.ensures.advanced G o.sound o.last).leaves.known
+returns-else-is_on-clause-lasts g c = λ G start o.
+    (needs_left c.in-Needs.next c.in-Needs.place (c.in-Needs.ensures.advanced G o.sound o.last) c.note.ensures.left).leaves.known

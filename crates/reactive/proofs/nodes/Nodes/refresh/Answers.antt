@@ -34,7 +34,7 @@ returns-in-Err-clause-known g c = λ G s kept sure.
     let h = c.loop-step.invariant.4 sure in
     let here : is_some (known_of (book (g.S.AnyStorage.state c.loop-step.self.store) c.loop-step.self.links)
     c.loop-step.top.key) ≡ true = rw (h.3, h.4, h.1) sure in
-    let is = c.in-Err.ensures.known here h.0 in
+    let is = c.in-Err.ensures.known here h.5 h.0 in
     absurd (let wrong : ⊥ = grind arith in wrong)
 
 pub returns-in-Ok-None-clause-blamed : goal.returns-in-Ok-None-clause-blamed
@@ -66,7 +66,7 @@ loop-step-preserved g c =
           let h = inv.4 sure in
           let here : is_some (known_of (book (g.S.AnyStorage.state c.loop-step.self.store) c.loop-step.self.links)
           c.loop-step.top.key) ≡ true = rw (h.3, h.4, h.1) sure in
-          let is = c.in-Ok-Some.ensures.known here h.0 in
+          let is = c.in-Ok-Some.ensures.known here h.5 h.0 in
           let some = c.in-Ok-Some.field-0-is in
           absurd (let wrong : ⊥ = grind arith in wrong)),
       (λ G s. let left = rw inv.1 at c.go_on.ensures.lasts in
