@@ -439,8 +439,8 @@ impl<T: Value + Drop, R: Rule<T>, S: Storage<Node<T, R>>> Nodes<T, R, S> {
     }
 
     // Makes one step: back to the node that needs this one, or on to one that it needs. None if the
-    // first node is known. The node that needs one whose value has changed has no place any more: its rule is
-    // run at once, and the reads after that one aren't checked first, which it may not read again.
+    // first node is known. A node that read one whose value has changed loses its place: its rule is run at
+    // once. Its later reads aren't checked first, since the rule may not make them again.
     fn go_on(
         &mut self,
         path: &mut Vec<Frame>,
