@@ -6,12 +6,11 @@ use Rattle.std.specs.Cmp.Lexicographic.{pointwise, bytes_decides}
 use Rattle.std.specs.List.{AllByRecursion}
 use Rattle.std.proofs.Math.Seq.{drop-cons}
 use Rattle.std.proofs.lemmas.Bool.{cases_Bool}
-use Rattle.std.proofs.lemmas.List.{append_assoc, append-nil, map_push, take_more}
+use Rattle.std.proofs.lemmas.List.{append_assoc, map_push, take_more}
 use Rattle.generational_errors.specs.declared.error.Location.{Location}
 use Rattle.store_images.specs.declared.image.SlotImage.{SlotImage}
 use Rattle.std.specs.Io.KnownBytes.{Appends as Adds}
-use Rattle.saved_bytes.specs.Files.{file_of, header}
-use Rattle.saved_bytes.specs.Forms.{Appends, Form, IsForm, items_form, spell}
+use Rattle.saved_bytes.specs.Forms.{Appends, Form, items_form, spell}
 use Rattle.saved_bytes.specs.Forms.Form.{Text}
 use Rattle.saved_bytes.specs.Images.{IsSlotNamed, location_in}
 use Rattle.saved_bytes.specs.FileNames.{is_listed, location_form, file_index, saved_location_form, texts, IsFound, IsFileKnown, IsRelocated}
@@ -159,21 +158,3 @@ adds_both None y z a b p q = tt
 adds_both (Some xs) None z a b p q = absurd p
 adds_both (Some xs) (Some ys) None a b p q = absurd q
 adds_both (Some xs) (Some ys) (Some zs) a b p q = q ∙ (ap (λ (l : List ℕ). l ++ b) p ∙ append_assoc xs a b)
-
--- of bytes in front of which their header was written
-pub record IsWritten (f : Form) (head inner : List ℕ) : Type 0 where
-  pub fits : IsForm f
-  pub header_fits : IsForm (header (spell f []))
-  pub file : head ++ inner ≡ file_of (spell f [])
-
-pub header_written : (f : Form) (none inner bytes void head : List ℕ) → none ≡ [] → Appends f none inner → bytes ≡ inner → void ≡ []
-    → Appends (header bytes) void head → IsWritten f head inner
-header_written f none inner bytes void head n p b z q =
-    let spelled : inner ≡ spell f [] = sym (append-nil inner) ∙ (p.1 [] ∙ ap (λ (l : List ℕ). l ++ spell f []) n) in
-    let is = b ∙ spelled in
-    let h : Appends (header (spell f [])) void head = subst (λ (l : List ℕ). Appends (header l) void head) is q in
-    record {
-      fits = p.0;
-      header_fits = h.0;
-      file = ap (λ (l : List ℕ). head ++ l) spelled ∙ (h.1 (spell f []) ∙ ap (λ (l : List ℕ). l ++ file_of (spell f [])) z);
-    }

@@ -1,9 +1,9 @@
 -- Items that are written and read one after the other.
-use Rattle.std.proofs.Common.{◌≡◌, ℕ, ◌+◌, ◌<◌, ◌≤◌, List, [], ◌∷◌, ◌++◌, length, refl, ap, sym, subst, ◌∙◌, arith, Ok, Err, length-append, append_assoc}
+use Rattle.std.proofs.Common.{◌≡◌, ℕ, ◌+◌, ◌<◌, ◌≤◌, List, [], ◌∷◌, ◌++◌, length, refl, ap, sym, subst, ◌∙◌, arith, Ok, Err, Result, length-append, append_assoc}
 use Rattle.std.proofs.lemmas.List.{append-nil}
 use Rattle.std.specs.List.{AllByRecursion}
 use Rattle.saved_bytes.specs.Forms.{Appends, Form, IsForm, spell, items_form}
-use Rattle.saved_bytes.specs.Reading.{ArePairwise, ReadsAs, ReadsOnly}
+use Rattle.saved_bytes.specs.Reading.{ArePairwise, AreReadAs, IsReadAs, ReadsAs, ReadsOnly}
 use Rattle.saved_bytes.specs.declared.decode.DecodeError.{DecodeError}
 use Rattle.saved_bytes.specs.declared.decode.DecodeError.TheVariants.{OutOfMemory}
 
@@ -149,3 +149,10 @@ module _ {X Y : Type 0} (Here : X → Type 0) (form : X → Form) (Same : X → 
   all_read count from items now are all xs rest long here fits is =
       let l = are.again xs rest long here fits is in
       none_left xs rest items now l.0 l.1 l.2 (omega arith)
+
+-- Items that were read as the parts of a whole.
+pub as_one : {X Y V : Type 0} (Here : X → Type 0) (form : X → Form) (Same : X → Y → Type 0) (items : V → List Y) (Are : List X → Type 0)
+    (whole : List X → Form) (xs : List X) (rest new : List ℕ) (r : Result V DecodeError) → AreReadAs Here form Same items xs rest r new
+    → IsReadAs Are whole (λ zs v. ArePairwise Same zs (items v)) xs rest r new
+as_one Here form Same items Are whole xs rest new (Ok v) h = h
+as_one Here form Same items Are whole xs rest new (Err e) h = h

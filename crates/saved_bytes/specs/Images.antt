@@ -1,5 +1,5 @@
 -- Images of stores as forms, and what is read of one.
-use Rattle.std.specs.Prelude.{◌≡◌, ℕ, List, Option, Some, None, IfSome, IsSomeAnd}
+use Rattle.std.specs.Prelude.{◌≡◌, ℕ, List, Option, Some, None, IfSome, IsSomeAnd, length}
 use Rattle.std.specs.Borrow.{Bor}
 use Rattle.std.specs.Int.{w64}
 use Rattle.std.specs.List.{AllByRecursion}
@@ -8,11 +8,18 @@ use Rattle.store_images.specs.declared.image.CellImage.{CellImage}
 use Rattle.store_images.specs.declared.image.CellImage.TheVariants as saved
 use Rattle.store_images.specs.declared.image.Image.{Image}
 use Rattle.store_images.specs.declared.image.SlotImage.{SlotImage}
-use Rattle.saved_bytes.specs.Forms.{Form, list_form, variant_form}
+use Rattle.saved_bytes.specs.Forms.{Form, items_form, list_form, variant_form}
 use Rattle.saved_bytes.specs.FileNames.{IsFound, IsFileKnown, IsRelocated, location_form, saved_location_form}
 use Rattle.saved_bytes.specs.declared.images.SavedCell.{SavedCell}
 use Rattle.saved_bytes.specs.declared.images.SavedCell.TheVariants as file
 use Rattle.saved_bytes.specs.Reading.{ArePairwise}
+
+-- an image's numbers, and how many slots it has
+abbrev pub saved_front_form : (ℕ × (ℕ × (ℕ × ℕ))) × ℕ → Form
+saved_front_form front =
+    Form.Both
+    (Form.Both (Form.Number w64 front.0.0) (Form.Both (Form.Number w64 front.0.1.0) (Form.Both (Form.Number w64 front.0.1.1.0) (Form.Number w64 front.0.1.1.1))))
+    (Form.Number w64 front.1)
 
 module _ {T : Type 0} where
   abbrev pub location_in : CellImage T → Option Location
@@ -32,6 +39,10 @@ module _ {T : Type 0} where
       Form.Both (Form.Number w64 i.number)
       (Form.Both (Form.Number w64 i.start) (Form.Both (Form.Number w64 i.next) (Form.Number w64 i.peak)))
 
+  -- the numbers, and how many slots there are
+  abbrev pub front_form : Image T → Form
+  front_form i = Form.Both (numbers_form i) (Form.Number w64 (length i.slots.items))
+
   -- ---- with a table of the files' names
 
   module _ (names : List (List ℕ)) where
@@ -41,6 +52,9 @@ module _ {T : Type 0} where
 
     abbrev pub IsSlotNamed : SlotImage T → Type 0
     IsSlotNamed s = IsCellNamed s.cell
+
+    abbrev pub AreNamed : ℕ → List (SlotImage T) → Type 0
+    AreNamed count slots = (length slots ≡ count) × AllByRecursion IsSlotNamed slots
 
     abbrev pub IsImageNamed : Image T → Type 0
     IsImageNamed i = AllByRecursion IsSlotNamed i.slots.items
@@ -59,6 +73,10 @@ module _ {T : Type 0} where
     -- the generation and the cell
     abbrev pub slot_form : SlotImage T → Form
     slot_form s = Form.Both (Form.Number w64 s.generation) (cell_form s.cell)
+
+    -- the names, and slots
+    abbrev pub named_slots_form : List (SlotImage T) → Form
+    named_slots_form slots = Form.Both (list_form Form.Text names) (items_form slot_form slots)
 
     -- the names, the store's numbers, and the slots
     abbrev pub image_form : Image T → Form

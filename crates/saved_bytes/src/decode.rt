@@ -90,7 +90,7 @@ impl<T: Drop> From<AllocFailed<T>> for DecodeError {
 pub struct Decoder<'a> {
     alloc: Global,
     rest: &'a [u8],
-    len: usize,
+    end: usize,
 }
 
 impl<'a> Decoder<'a> {
@@ -98,10 +98,17 @@ impl<'a> Decoder<'a> {
     pub fn new(alloc: Global, bytes: &'a [u8]) -> Decoder<'a>
         ensures { unread result ≡ bytes.now }
     {
+        Decoder::at(alloc, bytes, 0)
+    }
+
+    // Reads from these bytes of a file, the first of which has this index.
+    pub(crate) fn at(alloc: Global, bytes: &'a [u8], start: usize) -> Decoder<'a>
+        ensures { unread result ≡ bytes.now }
+    {
         Decoder {
             alloc,
             rest: bytes,
-            len: bytes.len(),
+            end: start.saturating_add(bytes.len()),
         }
     }
 
@@ -112,7 +119,7 @@ impl<'a> Decoder<'a> {
 
     /// The index of the next byte.
     pub fn position(&self) -> usize {
-        self.len.saturating_sub(self.rest.len())
+        self.end.saturating_sub(self.rest.len())
     }
 
     /// The remaining bytes.

@@ -4,7 +4,8 @@ ghost use Rattle.std.specs.Prelude.{◌≡◌, ℕ, List, OnOk, IfOk};
 ghost use Rattle.std.specs.Borrow.{Bor};
 ghost use Rattle.std.specs.List.{AllByRecursion};
 ghost use Rattle.saved_bytes.specs.Forms.{Appends, items_form, unread, written};
-ghost use Rattle.saved_bytes.specs.Images.{cell_form, image_form, location_in, saved_cell_form, slot_form, IsCellRestored};
+ghost use Rattle.saved_bytes.specs.Images.{cell_form, front_form, image_form, location_in, named_slots_form, saved_cell_form, slot_form};
+ghost use Rattle.saved_bytes.specs.Images.{AreNamed, IsCellRestored};
 ghost use Rattle.saved_bytes.specs.Images.{IsCellNamed, IsImageAgain, IsImageNamed, IsSlotAgain, IsSlotNamed};
 ghost use Rattle.saved_bytes.specs.FileNames.{IsFound, IsFileKnown, texts};
 ghost use Rattle.saved_bytes.specs.Reading.{ArePairwise, ItemsReadAs, ReadsAgain, ReadsAs};
@@ -100,19 +101,28 @@ fn encode_slots<T: Saved>(
     Ok(())
 }
 
-/// Appends an image, with these file names.
-pub fn encode_image<T: Saved>(
-    image: &Image<T>,
-    names: &[&'static str],
+/// Appends an image's numbers, and how many slots it has.
+pub fn encode_front<T>(image: &Image<T>, out: &mut Encoder) -> Result<(), AllocError>
+    ensures { OnOk result (Appends (front_form image.now) (written out.old) (written out.new)) }
+{
+    let numbers = (image.number, (image.start, (image.next, image.peak)));
+    let slots = image.slots.as_slice();
+    numbers.encode(out)?;
+    out.put_u64(slots.len() as u64)
+}
+
+/// Appends the names of the files in which these slots' cells were made, and the slots.
+pub fn encode_named_slots<T: Saved>(
+    alloc: Global,
+    slots: &[SlotImage<T>],
     out: &mut Encoder,
 ) -> Result<(), AllocError>
-    ensures { OnOk result (Appends (image_form (texts names.now) T.form image.now) (written out.old) (written out.new)) }
+    ensures { OnOk result ((names : List (List ℕ)) × AllByRecursion (IsSlotNamed names) slots.now
+        × Appends (named_slots_form names T.form slots.now) (written out.old) (written out.new)) }
 {
-    encode_file_names(names, out)?;
-    let numbers = (image.number, (image.start, (image.next, image.peak)));
-    numbers.encode(out)?;
-    out.put_u64(image.slots.len() as u64)?;
-    encode_slots(image.slots.as_slice(), names, out)
+    let names = names_in(alloc, slots)?;
+    encode_file_names(names.as_slice(), out)?;
+    encode_slots(slots, names.as_slice(), out)
 }
 
 // A cell in the form of a file: each location with the index of its file's name.
@@ -233,4 +243,19 @@ pub fn decode_image<T: Saved>(
         peak,
         slots,
     })
+}
+
+/// Reads names of files, and this number of slots. A location whose file isn't among these becomes
+/// `here`.
+pub fn decode_named_slots<T: Saved>(
+    input: &mut Decoder,
+    count: u64,
+    files: &[&'static str],
+    here: Location,
+) -> Result<Vec<SlotImage<T>>, DecodeError>
+    ensures { (names : List (List ℕ)) → ReadsAs (AreNamed names count) (named_slots_form names T.form)
+        (λ xs v. ArePairwise (IsSlotAgain files.now here T.form) xs v.items) (unread input.old) result (unread input.new) }
+{
+    let found_files = decode_file_names(input, files)?;
+    decode_slots(input, count, found_files.as_slice(), here)
 }

@@ -14,6 +14,7 @@ mod ids;
 mod images;
 mod lists;
 mod numbers;
+mod pieces;
 mod saved;
 
 pub use crate::decode::{DecodeError, Decoder, Fault};
