@@ -54,14 +54,16 @@ fn hostile_files_are_refused(rt: HostRuntime) {
     assert_reads(&rt, alloc, &[], "at byte 0: the bytes end too early");
 }
 
-/// Whether the first bytes of the stored file are an error at their end, or in the header.
+/// Whether the first bytes of the stored file are an error at their end, or at the number of a header in
+/// which they end.
 fn is_refused_at_its_end(alloc: Global, len: usize) -> bool {
     if len > STORED.len() {
         return false;
     }
     match read(alloc, &STORED[..len], &FILES) {
-        Err(ReadError::Decode(DecodeError::Damaged(at, Fault::Short))) => at == len
-            || len < 28 && at <= len,
+        Err(ReadError::Decode(DecodeError::Damaged(at, Fault::Short))) => len
+            .checked_sub(at)
+            .is_some_and(|left| left < 8),
         _ => false,
     }
 }

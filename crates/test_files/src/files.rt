@@ -1,6 +1,6 @@
 //! A stored file, and its image.
 
-use crate::stored::STORED;
+use crate::stored::{EARLIER, STORED};
 use generational_core::Location;
 use saved_bytes::{ReadError, read_image, write_image};
 use std::alloc::Global;
@@ -86,6 +86,12 @@ fn a_stored_file_is_written_and_read(rt: HostRuntime) {
     let alloc = rt.alloc();
     assert_written(&rt, alloc, &image(&rt, alloc), &STORED);
     assert_again(&rt, alloc, &STORED, image(&rt, alloc));
+}
+
+#[test]
+fn a_file_of_the_earlier_version_is_read(rt: HostRuntime) {
+    let alloc = rt.alloc();
+    assert_again(&rt, alloc, &EARLIER, image(&rt, alloc));
 }
 
 /// Asserts which of the image's files are found if the reader knows these.

@@ -15,6 +15,8 @@ mod json;
 #[cfg(test)]
 mod json_memory;
 #[cfg(test)]
+mod large;
+#[cfg(test)]
 mod mutated_documents;
 #[cfg(test)]
 mod mutated_tables;

@@ -76,22 +76,39 @@ pub(crate) fn mutated(rt: &impl Abort, alloc: Global, bytes: &[u8], state: &mut 
     mutated
 }
 
-/// A file of an image with damage. In seven of eight files the header is right afterwards.
+/// How many bytes the first piece of a file takes.
+const FRONT: usize = 68;
+
+/// A piece with damage, behind a header of what it is then.
+fn mutated_piece(rt: &impl Abort, alloc: Global, piece: &[u8], state: &mut u64) -> Vec<u8> {
+    let (head, inner) = split(piece, 28);
+    let (magic, _) = split(head, 12);
+    let inner = mutated(rt, alloc, inner, state);
+    let len = (inner.len() as u64).to_le_bytes();
+    let sum = checksum(inner.as_slice()).to_le_bytes();
+    joined(rt, alloc, &[magic, &len, &sum, inner.as_slice()])
+}
+
+/// A file of an image with damage, to the piece of its slots in six of eight files, and to its first
+/// piece in one. The piece's header is right afterwards.
 pub(crate) fn mutated_file(
     rt: &impl Abort,
     alloc: Global,
     file: &[u8],
     state: &mut u64,
 ) -> Vec<u8> {
-    if drawn(state) % 8 == 0 {
-        return mutated(rt, alloc, file, state);
+    let (front, slots) = split(file, FRONT);
+    match drawn(state) % 8 {
+        0 => mutated(rt, alloc, file, state),
+        1 => {
+            let front = mutated_piece(rt, alloc, front, state);
+            joined(rt, alloc, &[front.as_slice(), slots])
+        }
+        _ => {
+            let slots = mutated_piece(rt, alloc, slots, state);
+            joined(rt, alloc, &[front, slots.as_slice()])
+        }
     }
-    let (head, inner) = split(file, 28);
-    let (magic, _) = split(head, 12);
-    let inner = mutated(rt, alloc, inner, state);
-    let len = (inner.len() as u64).to_le_bytes();
-    let sum = checksum(inner.as_slice()).to_le_bytes();
-    joined(rt, alloc, &[magic, &len, &sum, inner.as_slice()])
 }
 
 /// The checksum of a file's bytes, as a reader in another language would compute it.
