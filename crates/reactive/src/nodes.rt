@@ -142,7 +142,8 @@ impl<T: Value + Drop, R: Rule<T>, S: Storage<Node<T, R>>> Nodes<T, R, S> {
     }
 
     // Caches what a key's node was found to mean, and the reads that it came from. False if memory runs
-    // out.
+    // out. Inlined, it would make each other step dearer.
+    #[inline(never)]
     fn keep(&mut self, key: Key, value: T, reads: Vec<Key>) -> bool
         requires simple { IsSimple (S.state self.old.store) }
         ensures simple { IsSimple (S.state self.new.store) }
