@@ -30,8 +30,8 @@ NEW_CALL = os.path.join(ROOT, "docs", "maintaining", "CONTRIBUTING.md")
 KINDS = {
     "### What users take": r"generational_\w+|saved_\w+|signals|reactive(?:_values)?|\w+_table|\w+_tree",
     "### What stores are made of": r"(store|shared)_\w+|location_list|live_cells|dirty_slots|stamped_values|handles",
-    "### Programs": r"boxes(_\w+)?|example_(?:programs|sheet)|todo_list",
-    "### Proved callers": r"example_(?!programs$|sheet$)\w+",
+    "### Programs": r"boxes(_\w+)?|example_(?:programs|sheet|durable_sessions)|todo_list",
+    "### Proved callers": r"example_(?!programs$|sheet$|durable_sessions$)\w+",
     "### Tests": r"test_\w+",
     "### What is measured": r"bench_\w+",
 }

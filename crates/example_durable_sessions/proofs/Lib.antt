@@ -1,0 +1,2 @@
+pub mod Storing
+unfoldable pub use Storing.*
