@@ -162,15 +162,32 @@ fn show<R: Print, P: Storage<Page>, B: Storage<u32>>(
     page: Node<Page>,
 ) -> Result<()> {
     for above in wiki.pages.ancestors(page)? {
-        println!(rt; "in {}", wiki.title(above)?)?;
+        show_title(rt, wiki, "in", Some(above))?;
     }
-    if let Some(previous) = wiki.pages.previous_sibling(page)? {
-        println!(rt; "after {}", wiki.title(previous)?)?;
+    show_title(rt, wiki, "after", wiki.pages.previous_sibling(page)?)?;
+    show_title(rt, wiki, "before", wiki.pages.next_sibling(page)?)?;
+    show_blocks(rt, wiki, wiki.pages.get(page)?.title)
+}
+
+// Prints the title of a page, if there is one, after a word.
+fn show_title<R: Print, P: Storage<Page>, B: Storage<u32>>(
+    rt: &R,
+    wiki: &Wiki<P, B>,
+    word: &str,
+    page: Option<Node<Page>>,
+) -> Result<()> {
+    if let Some(page) = page {
+        println!(rt; "{word} {}", wiki.title(page)?)?;
     }
-    if let Some(next) = wiki.pages.next_sibling(page)? {
-        println!(rt; "before {}", wiki.title(next)?)?;
-    }
-    let title = wiki.pages.get(page)?.title;
+    Ok(())
+}
+
+// Prints a title, and the blocks below it.
+fn show_blocks<R: Print, P: Storage<Page>, B: Storage<u32>>(
+    rt: &R,
+    wiki: &Wiki<P, B>,
+    title: Place,
+) -> Result<()> {
     for (depth, place) in wiki.blocks.outline_with_depth(title, MOST)? {
         println!(rt;
             "{}{}",
