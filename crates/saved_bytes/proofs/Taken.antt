@@ -49,7 +49,7 @@ header_only h bytes rest is most =
     is ∙ ap (spell (header_form h)) none
 
 pub piece_consumed : (h : Header) (old mid new : Option (List ℕ)) (bytes : List ℕ) → Consumes old mid (spell (header_form h) [])
-    → Consumes mid new bytes → h.version ≡ VERSION → h.len ≡ length bytes → h.sum ≡ checksum bytes → Consumes old new (piece_of VERSION bytes)
+    → Consumes mid new bytes → h.version ≡ VERSION → h.len ≡ length bytes → h.sum ≡ checksum h.version bytes → Consumes old new (piece_of VERSION bytes)
 piece_consumed h old mid new bytes first second version len sum =
     let same : header_form h ≡ header VERSION bytes = cc in
     let both : spell (header_form h) [] ++ bytes ≡ piece_of VERSION bytes =
@@ -182,8 +182,8 @@ some_into None P Q f p = tt
 some_into (Some xs) P Q f p = f xs p
 
 pub body_then_pieces : (h : Header) (old mid : Option (List ℕ)) (inner : List ℕ) → Consumes old mid inner → h.len ≡ length inner
-    → h.sum ≡ checksum inner → IfSome mid (λ bytes. (pieces : List (List ℕ)) × (bytes ≡ pieces_of pieces))
-    → IfSome old (λ bytes. (first : List ℕ) × (pieces : List (List ℕ)) × (h.len ≡ length first) × (h.sum ≡ checksum first)
+    → h.sum ≡ checksum h.version inner → IfSome mid (λ bytes. (pieces : List (List ℕ)) × (bytes ≡ pieces_of pieces))
+    → IfSome old (λ bytes. (first : List ℕ) × (pieces : List (List ℕ)) × (h.len ≡ length first) × (h.sum ≡ checksum h.version first)
     × (bytes ≡ first ++ pieces_of pieces))
 body_then_pieces h None mid inner p len sum after = tt
 body_then_pieces h (Some xs) None inner p len sum after = absurd p
@@ -192,7 +192,7 @@ body_then_pieces h (Some xs) (Some ys) inner p len sum after =
 
 -- a header, and what follows it
 pub whole_file : (h : Header) (old mid : Option (List ℕ)) → Consumes old mid (spell (header_form h) []) → h.version ≡ WHOLE
-    → IfSome mid (λ bytes. (h.len ≡ length bytes) × (h.sum ≡ checksum bytes)) → IfSome old IsWhole
+    → IfSome mid (λ bytes. (h.len ≡ length bytes) × (h.sum ≡ checksum h.version bytes)) → IfSome old IsWhole
 whole_file h None mid p version after = tt
 whole_file h (Some xs) None p version after = absurd p
 whole_file h (Some xs) (Some ys) p version after =
@@ -202,7 +202,7 @@ whole_file h (Some xs) (Some ys) p version after =
     inl (ys, p ∙ (sym (spell_append (header_form h) [] ys) ∙ ap (λ (f : Form). spell f ys) same))
 
 pub file_in_pieces : (h : Header) (old mid : Option (List ℕ)) → Consumes old mid (spell (header_form h) []) → h.version ≡ VERSION
-    → IfSome mid (λ bytes. (first : List ℕ) × (pieces : List (List ℕ)) × (h.len ≡ length first) × (h.sum ≡ checksum first)
+    → IfSome mid (λ bytes. (first : List ℕ) × (pieces : List (List ℕ)) × (h.len ≡ length first) × (h.sum ≡ checksum h.version first)
     × (bytes ≡ first ++ pieces_of pieces)) → IfSome old IsWhole
 file_in_pieces h None mid p version after = tt
 file_in_pieces h (Some xs) None p version after = absurd p

@@ -1,5 +1,5 @@
 -- Files: pieces, each of which is a header and the bytes that it describes.
-use Rattle.std.specs.Prelude.{◌≡◌, ◌+◌, ◌*◌, ◌/◌, ◌%◌, ◌^◌, ◌⊎◌, ℕ, zero, suc, List, [], ◌∷◌, ◌++◌, length, drop, take, bit_xor}
+use Rattle.std.specs.Prelude.{◌≡◌, ◌+◌, ◌*◌, ◌/◌, ◌%◌, ◌^◌, ◌⊎◌, ℕ, zero, suc, List, [], ◌∷◌, ◌++◌, length, drop, take, bit_xor, if◌then◌else◌, ◌==◌}
 use Rattle.std.specs.Int.{w32, w64, from_le_bytes, rotate_left}
 use Rattle.std.specs.List.{AllByRecursion}
 use Rattle.store_images.specs.declared.image.Image.{Image}
@@ -23,13 +23,24 @@ word bytes k = from_le_bytes w64 (drop (8 * k) bytes)
 abbrev pub mixed : ℕ → ℕ → ℕ
 mixed sum n = rotate_left w64 ((bit_xor sum n * FACTOR) % 2 ^ 64) 31
 
--- of the first k numbers
-abbrev pub sum_upto : List ℕ → ℕ → ℕ
-sum_upto bytes zero = START
-sum_upto bytes (suc k) = mixed (sum_upto bytes k) (word bytes k)
+-- The numbers are dealt to some sums in turn. The i-th one, counted from 0, after k of its numbers.
+abbrev pub sum_upto : ℕ → List ℕ → ℕ → ℕ → ℕ
+sum_upto sums bytes i zero = START
+sum_upto sums bytes i (suc k) = mixed (sum_upto sums bytes i k) (word bytes (sums * k + i))
 
-unfoldable pub checksum : List ℕ → ℕ
-checksum bytes = sum_upto bytes (length bytes / 8 + 1)
+abbrev pub one_sum : List ℕ → ℕ
+one_sum bytes = sum_upto 1 bytes 0 (length bytes / 8 + 1)
+
+-- the i-th of four sums
+abbrev pub lane : List ℕ → ℕ → ℕ
+lane bytes i = sum_upto 4 bytes i (length bytes / 32 + 1)
+
+abbrev pub four_sums : List ℕ → ℕ
+four_sums bytes = mixed (mixed (mixed (lane bytes 0) (lane bytes 1)) (lane bytes 2)) (lane bytes 3)
+
+-- in a piece of this version
+unfoldable pub checksum : ℕ → List ℕ → ℕ
+checksum version bytes = if version == VERSION then four_sums bytes else one_sum bytes
 
 -- ---- pieces
 
@@ -40,12 +51,12 @@ header_form h =
     (Form.Both (Form.Number w32 h.version) (Form.Both (Form.Number w64 h.len) (Form.Number w64 h.sum)))
 
 abbrev pub header : ℕ → List ℕ → Form
-header version bytes = header_form (record { version = version; len = length bytes; sum = checksum bytes })
+header version bytes = header_form (record { version = version; len = length bytes; sum = checksum version bytes })
 
 pub record IsHeaderOf (h : Header) (v : ℕ) (bytes : List ℕ) : Type 0 where
   pub version : h.version ≡ v
   pub len : h.len ≡ length bytes
-  pub sum : h.sum ≡ checksum bytes
+  pub sum : h.sum ≡ checksum h.version bytes
 
 abbrev pub piece_of : ℕ → List ℕ → List ℕ
 piece_of version bytes = spell (header version bytes) bytes

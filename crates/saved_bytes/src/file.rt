@@ -176,7 +176,7 @@ fn decode_whole<T: Saved>(
     ensures again { (names : List (List ℕ)) (image : Image T) → IsImageNamed names image → IsForm (image_form names T.form image)
         → IsHeaderOf header WHOLE bytes.now → bytes.now ≡ spell (image_form names T.form image) []
         → IfOk result (λ again. IsImageAgain files.now here T.form image again) × IfErr result (λ e. e ≡ OutOfMemory) }
-    ensures only { OnOk result ((header.len ≡ length bytes.now) × (header.sum ≡ checksum bytes.now)) }
+    ensures only { OnOk result ((header.len ≡ length bytes.now) × (header.sum ≡ checksum header.version bytes.now)) }
 {
     check(header, bytes, HEADER)?;
     let mut input = Decoder::at(alloc, bytes, HEADER);
@@ -200,7 +200,7 @@ fn read_whole<T: Saved, R: Read>(
         → IsHeaderOf header WHOLE (spell (image_form names T.form image) [])
         → R.remaining input.old ≡ Some (spell (image_form names T.form image) [])
         → IfOk result (λ again. IsImageAgain files.now here T.form image again) × IfErr result IsNoDamage }
-    ensures only { OnOk result (IfSome (R.remaining input.old) (λ bytes. (header.len ≡ length bytes) × (header.sum ≡ checksum bytes))) }
+    ensures only { OnOk result (IfSome (R.remaining input.old) (λ bytes. (header.len ≡ length bytes) × (header.sum ≡ checksum header.version bytes))) }
 {
     let mut bytes = Vec::new(alloc);
     input.read_to_end(&mut bytes)?;
@@ -321,7 +321,7 @@ fn read_in_pieces<T: Saved, R: Read>(
         → R.remaining input.old ≡ Some (spell (front_form image) [] ++ bytes)
         → IfOk result (λ again. IsImageAgain files.now here T.form image again) × IfErr result IsNoDamage }
     ensures only { OnOk result (IfSome (R.remaining input.old) (λ bytes. (inner : List ℕ) × (pieces : List (List ℕ))
-        × (header.len ≡ length inner) × (header.sum ≡ checksum inner) × (bytes ≡ inner ++ pieces_of pieces))) }
+        × (header.len ≡ length inner) × (header.sum ≡ checksum header.version inner) × (bytes ≡ inner ++ pieces_of pieces))) }
 {
     let mut bytes = Vec::new(alloc);
     read_body(header, input, HEADER, &mut bytes)?;

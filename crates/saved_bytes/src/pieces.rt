@@ -42,7 +42,10 @@ pub struct Header {
 fn encode_header(bytes: &[u8], out: &mut Encoder) -> Result<(), AllocError>
     ensures { OnOk result (Appends (header VERSION bytes.now) (written out.old) (written out.new)) }
 {
-    let header = (MAGIC, (VERSION, (bytes.len() as u64, checksum(bytes))));
+    let header = (
+        MAGIC,
+        (VERSION, (bytes.len() as u64, checksum(VERSION, bytes))),
+    );
     header.encode(out)
 }
 
@@ -130,8 +133,8 @@ pub fn read_header<R: Read>(
 
 /// Compares bytes with their header. `at` is the index of their first one in the file.
 pub fn check(header: Header, bytes: &[u8], at: usize) -> Result<(), DecodeError>
-    ensures again { header.len ≡ length bytes.now → header.sum ≡ checksum bytes.now → IsOk result }
-    ensures only { OnOk result ((header.len ≡ length bytes.now) × (header.sum ≡ checksum bytes.now)) }
+    ensures again { header.len ≡ length bytes.now → header.sum ≡ checksum header.version bytes.now → IsOk result }
+    ensures only { OnOk result ((header.len ≡ length bytes.now) × (header.sum ≡ checksum header.version bytes.now)) }
 {
     let len = bytes.len() as u64;
     if len < header.len {
@@ -142,7 +145,7 @@ pub fn check(header: Header, bytes: &[u8], at: usize) -> Result<(), DecodeError>
         let end = at.saturating_add(header.len as usize);
         return Err(DecodeError::Damaged(end, Fault::Long));
     }
-    if checksum(bytes) != header.sum {
+    if checksum(header.version, bytes) != header.sum {
         return Err(DecodeError::Damaged(at.saturating_sub(8), Fault::Sum));
     }
     Ok(())
@@ -155,11 +158,11 @@ pub fn read_body<R: Read>(
     at: usize,
     bytes: &mut Vec<u8>,
 ) -> Result<(), ReadError>
-    ensures again { (inner rest : List ℕ) → header.len ≡ length inner → header.sum ≡ checksum inner
+    ensures again { (inner rest : List ℕ) → header.len ≡ length inner → header.sum ≡ checksum header.version inner
         → R.remaining input.old ≡ Some (inner ++ rest)
         → OnOk result ((bytes.new.items ≡ inner) × (R.remaining input.new ≡ Some rest)) × IfErr result IsNoDamage }
     ensures only { OnOk result (Consumes (R.remaining input.old) (R.remaining input.new) bytes.new.items
-        × (header.len ≡ length bytes.new.items) × (header.sum ≡ checksum bytes.new.items)) }
+        × (header.len ≡ length bytes.new.items) × (header.sum ≡ checksum header.version bytes.new.items)) }
 {
     read_up_to(input, header.len as usize, bytes)?;
     match check(header, bytes.as_slice(), at) {

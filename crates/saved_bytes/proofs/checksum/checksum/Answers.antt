@@ -1,12 +1,18 @@
-use Rattle.std.proofs.Common.{◌≡◌, ◌/◌, refl, add-one, arith, length}
+use Rattle.std.proofs.Common.{◌≡◌, arith, false}
+use Rattle.std.specs.Prelude.{◌==◌}
+use Rattle.std.proofs.lemmas.Bool.{ne_eqb}
 use Rattle.saved_bytes.specs.Files.{checksum}
+use Rattle.saved_bytes.specs.declared.pieces.TheConstants.{VERSION}
 use Rattle.saved_bytes.proofs.checksum.checksum.Goals as goal
 
-pub loop-k-preserved : goal.loop-k-preserved
-loop-k-preserved c = rw (add-one, c.mix-sum.ensures, c.word_at.ensures, c.loop-k.invariant) refl
-
-pub returns : goal.returns
+pub returns-then-version-eq-VERSION : goal.returns-then-version-eq-VERSION
 unfolding checksum
-returns c =
-    let all : c.loop-k.k ≡ length c.args.bytes.now / 8 = omega arith in
-    rw (add-one, c.mix.ensures, c.word_at-2.ensures, c.loop-k.invariant, all) refl
+returns-then-version-eq-VERSION c =
+    let is : c.args.version ≡ VERSION = omega arith in
+    rw is c.four_sums.ensures
+
+pub returns-else-version-eq-VERSION : goal.returns-else-version-eq-VERSION
+unfolding checksum
+returns-else-version-eq-VERSION c =
+    let other : (c.args.version == VERSION) ≡ false = ne_eqb c.args.version VERSION c.if-version-eq-VERSION.false in
+    rw other c.one_sum.ensures

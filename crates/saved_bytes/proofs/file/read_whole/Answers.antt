@@ -34,6 +34,6 @@ returns-in-Ok-clause-only g c =
     let bytes = c.as_slice.result.now in
     let from : (xs : List ℕ) → c.read_to_end.new.buf.items ≡ c.new-bytes.result.items ++ xs → bytes ≡ xs =
     λ xs is. c.as_slice.ensures.value ∙ (is ∙ ap (λ (l : List ℕ). l ++ xs) c.new-bytes.ensures.items) in
-    some_same old bytes (λ l. (c.args.header.len ≡ length l) × (c.args.header.sum ≡ checksum l))
+    some_same old bytes (λ l. (c.args.header.len ≡ length l) × (c.args.header.sum ≡ checksum c.args.header.version l))
     (some_into old (λ xs. c.read_to_end.new.buf.items ≡ c.new-bytes.result.items ++ xs) (λ xs. bytes ≡ xs) from c.in_ok-read_to_end.ensures.bytes)
     c.in-Ok.ensures.only

@@ -9,7 +9,7 @@ use Rattle.saved_bytes.proofs.pieces.decode_header.Goals as goal
 pub returns-in_err-magic-clause-again : goal.returns-in_err-magic-clause-again
 returns-in_err-magic-clause-again c = λ version inner fits is.
     let p = err_from_is_err_and c.from_residual.result c.from_residual.ensures.1 in
-    rw (p.1, p.2) (tt, c.in_err-magic.ensures.again (MAGIC, (version, (length inner, checksum inner))) [] fits (c.at-input.ensures ∙ is))
+    rw (p.1, p.2) (tt, c.in_err-magic.ensures.again (MAGIC, (version, (length inner, checksum version inner))) [] fits (c.at-input.ensures ∙ is))
 
 pub returns-clause-only : goal.returns-clause-only
 returns-clause-only c =

@@ -21,5 +21,5 @@ returns-in-Err-clause-again g c = λ inner rest len sum is.
     let consumed = subst (λ (o : Option (List ℕ)). Consumes o new bytes) is read.bytes in
     let got = taken inner rest new bytes consumed (omega arith) (λ below. read.ended (omega arith)) in
     let same : c.as_slice.result.now ≡ inner = c.as_slice.ensures.value ∙ got.0 in
-    let no = c.in-Err.ensures.again (len ∙ sym (ap length same)) (sum ∙ sym (ap checksum same)) in
+    let no = c.in-Err.ensures.again (len ∙ sym (ap length same)) (sum ∙ sym (ap (checksum c.args.header.version) same)) in
     absurd cc
