@@ -111,19 +111,36 @@ pub(crate) fn mutated_file(
     }
 }
 
-/// The checksum of a file's bytes, as a reader in another language would compute it.
+/// What each sum is at first.
+const START: u64 = 0x243f_6a88_85a3_08d3;
+
+/// The checksum of a piece's bytes, as a reader in another language would compute it.
 pub(crate) fn checksum(bytes: &[u8]) -> u64 {
-    let mut sum = 0x243f_6a88_85a3_08d3;
-    let (mut word, mut shift) = (0u64, 0u32);
-    for byte in bytes {
-        word |= u64::from(*byte).wrapping_shl(shift);
-        shift = (shift % 64 + 8) % 64;
-        if shift == 0 {
-            sum = mixed(sum, word);
-            word = 0;
-        }
+    let mut sums = (START, START, START, START);
+    let mut rest = bytes;
+    for _ in 0..bytes.len() / 32 + 1 {
+        let (one, after) = split(rest, 8);
+        let (two, after) = split(after, 8);
+        let (three, after) = split(after, 8);
+        let (four, after) = split(after, 8);
+        rest = after;
+        sums = (
+            mixed(sums.0, number(one)),
+            mixed(sums.1, number(two)),
+            mixed(sums.2, number(three)),
+            mixed(sums.3, number(four)),
+        );
     }
-    mixed(sum, word)
+    mixed(mixed(mixed(sums.0, sums.1), sums.2), sums.3)
+}
+
+/// Up to eight bytes, as a number.
+fn number(bytes: &[u8]) -> u64 {
+    let mut number = 0;
+    for byte in bytes.iter().rev() {
+        number = number << 8 | u64::from(*byte);
+    }
+    number
 }
 
 fn mixed(sum: u64, word: u64) -> u64 {
