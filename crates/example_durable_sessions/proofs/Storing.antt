@@ -5,7 +5,7 @@ use Rattle.std.specs.Prelude.{is_some, nat_eq, option_map}
 use Rattle.std.specs.Map.{lookup}
 use Rattle.session_table.specs.Sessions.{Entry, LiveSession, find_entry, with_entry}
 use Rattle.session_table.specs.Tables.{shown_in, value_under}
-use Rattle.example_durable_sessions.specs.Files.{Kept, session_of}
+use Rattle.example_durable_sessions.specs.Files.{InMemory, session_of}
 
 -- the last entry is found, if no other has its key
 found_last : {X : Type 0} (k : ℕ) (x : X) (es : List (ℕ × X)) → (is_some (lookup (nat_eq k) es) ≡ true → ⊥)
@@ -19,7 +19,7 @@ found_last k x (e ∷ es) none = by (nat_eq k e.0) refl (λ none. found_last k x
     by true here rest = absurd (none (rw here refl))
     by false other rest = rw other (rest (λ some. none (rw other some)))
 
-module _ (old new : Kept) (id key value : ℕ) (e : Entry ℕ) where
+module _ (old new : InMemory) (id key value : ℕ) (e : Entry ℕ) where
   pub value_stored : (is_some (session_of old id) ≡ false → ⊥)
       → (is_some (find_entry (nat_eq key) (session_of old id)) ≡ true → ⊥)
       → session_of new id ≡ option_map (with_entry key e) (session_of old id)

@@ -33,11 +33,11 @@ module _ {S : Type 0} (g : Ghosts S) (sql : List ℕ) (params : Row) (old new : 
 
 -- ---- the sessions in memory
 
-abbrev pub Kept : Type 0
-Kept = SessionsState ℕ ℕ ℕ
+abbrev pub InMemory : Type 0
+InMemory = SessionsState ℕ ℕ ℕ
 
-abbrev pub session_of : Kept → ℕ → Option (LiveSession ℕ ℕ)
+abbrev pub session_of : InMemory → ℕ → Option (LiveSession ℕ ℕ)
 session_of t id = session_in nat_eq t id
 
-abbrev pub KeepsOthers : ℕ → Kept → Kept → Type 0
+abbrev pub KeepsOthers : ℕ → InMemory → InMemory → Type 0
 KeepsOthers id old new = (other : ℕ) → nat_eq id other ≡ false → session_of new other ≡ session_of old other
