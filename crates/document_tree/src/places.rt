@@ -13,7 +13,7 @@ use live_cells::plain_cells;
 use std::alloc::AllocError;
 
 impl<T, S: Storage<u32>> Document<T, S> {
-    /// Returns a list of all live places, each once, with the location where its part was added.
+    /// Returns a list of all live places, each once.
     ///
     /// Allocates the list, and temporarily a byte for each slot, and two lists of the slots, of some 50
     /// bytes each. O(n) for n slots.
